@@ -1,0 +1,2 @@
+// Formulas over locations: tokens, and their value against a set.
+pub mod token;
