@@ -1,0 +1,3 @@
+// Sheets as bytes: blocks, head and entries, and the first fault of a sheet, if it has one.
+pub mod fault;
+pub mod head;

@@ -1,0 +1,1 @@
+// Writing sheets: the bytes of a content, block by block.
