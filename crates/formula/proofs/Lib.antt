@@ -1,2 +1,4 @@
 pub mod Sets
+pub mod Spelling
 pub mod Unions
+pub mod Waiting

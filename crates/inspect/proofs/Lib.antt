@@ -1,0 +1,9 @@
+pub mod Begins
+pub mod Fields
+pub mod FirstOf
+pub mod Lying
+pub mod Meaning
+pub mod Readings
+pub mod Standing
+pub mod Sums
+pub mod Walks
