@@ -1,9 +1,13 @@
 pub mod Begins
+pub mod Cuts
 pub mod Fields
 pub mod FirstOf
 pub mod Lying
 pub mod Meaning
+pub mod Passing
+pub mod Phases
 pub mod Readings
 pub mod Standing
 pub mod Sums
+pub mod Tokens
 pub mod Walks

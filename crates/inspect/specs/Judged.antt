@@ -13,7 +13,7 @@ use Rattle.formula.specs.Shape.{room, moved}
 use Rattle.inspect.specs.declared.fault.Refusal.{Refusal}
 use Rattle.inspect.specs.declared.head.Asked.{Asked}
 use Rattle.inspect.specs.declared.head.Sort.{Sort}
-use Rattle.inspect.specs.Checks.{Check, first}
+use Rattle.inspect.specs.Checks.{Check, first, allowed}
 use Rattle.inspect.specs.Format.{takes}
 
 module _ {T F : Type 0} (say : F → Refusal) where
@@ -35,3 +35,8 @@ next-waiting t w = cond (room t w) (Some (moved t w)) None
 abbrev pub sort-asked : Asked → Option Sort → Option Sort
 sort-asked asked None = None
 sort-asked asked (Some s) = cond (takes asked s) (Some s) None
+
+-- a token that the head allows
+abbrev pub known-token : Sort → ℕ → Option Token → Option Token
+known-token s n None = None
+known-token s n (Some t) = cond (allowed s n t) (Some t) None

@@ -3,6 +3,7 @@ pub mod Contents
 pub mod Denotes
 pub mod Entries
 pub mod Format
+pub mod Inspected
 pub mod Items
 pub mod Judged
 pub mod Refusals

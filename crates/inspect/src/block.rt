@@ -1,9 +1,9 @@
 // Blocks: their check, their kind and their number.
 ghost use mathlib.Core.Path.{_≡_};
-ghost use Prim.Native.Nat.{ℕ, _*_, _<_};
+ghost use Prim.Native.Nat.{ℕ, _*_, _≤_};
 ghost use lib.ListN.{length, take};
-ghost use Rattle.inspect.specs.Checks.{block-checks};
-ghost use Rattle.inspect.specs.Format.{check-of, kind};
+ghost use Rattle.inspect.specs.Checks.{block-checks, all-block-checks};
+ghost use Rattle.inspect.specs.Format.{block, blocks, check-of, kind};
 ghost use Rattle.inspect.specs.Judged.{Judged};
 ghost use Rattle.inspect.specs.Refusals.{block-refusal};
 use crate::fault::BlockFault;
@@ -13,6 +13,20 @@ pub const BLOCK: usize = 512;
 
 // Where a block's check stands, and its entries end.
 pub const CHECK: usize = 510;
+
+// Block k of a sheet; less than a block where the sheet ends before.
+pub fn block_at(sheet: &[u8], k: u8) -> &[u8]
+    ensures { λ r. ⌜ now r ≡ block (now (sheet .entry)) k ⌝ }
+{
+    let start = usize::from(k) * BLOCK;
+    if start + BLOCK <= sheet.len() {
+        &sheet[start..start + BLOCK]
+    } else if start <= sheet.len() {
+        &sheet[start..]
+    } else {
+        &sheet[0..0]
+    }
+}
 
 // What lies before a block's check.
 pub(crate) fn before_check(block: &[u8]) -> &[u8]
@@ -60,6 +74,17 @@ pub(crate) fn check_block(k: u8, block: &[u8]) -> Result<(), BlockFault>
     }
     if block[1] != k {
         return Err(BlockFault::Kind(Place { block: k, byte: 1 }));
+    }
+    Ok(())
+}
+
+// Whether every block of the sheet does.
+pub(crate) fn check_blocks(sheet: &[u8]) -> Result<(), BlockFault>
+    requires { ⌜ length (now sheet) ≡ blocks (now sheet) * 512 ⌝ ∗ ⌜ blocks (now sheet) ≤ 64 ⌝ }
+    ensures { λ r. ⌜ Judged block-refusal (all-block-checks (now (sheet .entry)) 0 (blocks (now (sheet .entry)))) (λ _. Unit {0}) r ⌝ }
+{
+    for k in 0..sheet.len() / BLOCK {
+        check_block(k as u8, block_at(sheet, k as u8))?;
     }
     Ok(())
 }

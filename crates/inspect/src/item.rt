@@ -7,6 +7,7 @@ use crate::fault::EntryFault;
 use crate::fault::Place;
 use crate::head::Head;
 
+#[derive(Clone, Copy)]
 pub enum Item<'a> {
     Head(Head),
     Entry {
@@ -36,4 +37,16 @@ fn opened<'a>(rest: &'a [u8], place: Place) -> Result<Item<'a>, EntryFault>
         letter: *letter,
         tokens: &tokens[0..length],
     })
+}
+
+// What begins at this place of its block.
+pub(crate) fn entry_at<'a>(block: &'a [u8], place: Place) -> Result<Item<'a>, EntryFault>
+    ensures { λ r. ⌜ ItemAt (drop (place .byte) (take 510 (now (block .entry)))) place r ⌝ }
+{
+    let bytes = before_check(block);
+    let at = usize::from(place.byte);
+    if at > bytes.len() {
+        return Ok(Item::End);
+    }
+    opened(&bytes[at..], place)
 }
