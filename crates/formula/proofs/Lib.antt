@@ -1,4 +1,5 @@
 pub mod Sets
+pub mod Spelled
 pub mod Spelling
 pub mod Unions
 pub mod Waiting

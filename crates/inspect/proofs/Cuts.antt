@@ -47,10 +47,12 @@ module _ (xs b : List ℕ) (k n : ℕ) (inside : k < n) (is : b ≡ block xs k) 
   blocks-fail r h =
       rw left (first-append-some (block-checks k (block xs k)) (all-block-checks xs (suc k) (n - (k + 1))) r (ap (λ c. first (block-checks k c)) (sym is) ∙ h))
 
+  pub all-entries-on : all-entries xs k (n - k) ≡ entries k 2 (body b) ++ all-entries xs (k + 1) (n - (k + 1))
+  all-entries-on = rw (left, add-one k) (ap (λ c. entries k 2 (body c) ++ all-entries xs (suc k) (n - suc k)) (sym is))
+
   -- F asks about entries, and answers v once those of this block are passed
   pub entries-pass : (F : List Placed → List Check) (v : List Placed → Option Refusal) → ((fs : List Placed) → first (F (entries k 2 (body b) ++ fs)) ≡ v fs) → first (F (all-entries xs k (n - k))) ≡ v (all-entries xs (k + 1) (n - (k + 1)))
-  entries-pass F v h =
-      rw (left, add-one k) (ap (λ c. first (F (entries k 2 (body c) ++ all-entries xs (suc k) (n - suc k)))) (sym is) ∙ h (all-entries xs (suc k) (n - suc k)))
+  entries-pass F v h = ap (λ es. first (F es)) all-entries-on ∙ h _
 
   pub entries-fit : Fitting (all-entries xs k (n - k)) → Fitting (entries k 2 (body b)) × Fitting (all-entries xs (k + 1) (n - (k + 1)))
   entries-fit h =

@@ -1,5 +1,11 @@
 pub mod Blocks
+pub mod Cells
+pub mod Denoted
 pub mod Heads
 pub mod Packing
-pub mod Tables
+pub mod Pastes
 pub mod Sheets
+pub mod Stand
+pub mod Successors
+pub mod Tables
+pub mod Valids

@@ -29,13 +29,14 @@ abbrev payloads : Content → List (List ℕ)
 payloads c = head-payload (c .head) ∷ map closed (bodies (entries-of c))
 
 written-all : (c : Content) → written c ≡ sealed-all 0 (payloads c)
+unfolding written
 written-all c = ap (λ xs. sealed 0 (head-payload (c .head)) ++ xs) (sealed-from-all 1 (bodies (entries-of c)))
 
 module _ (c : Content) (valid : Valid c) where
   good : All (λ e. Proper (c .head) e × Small e) (entries-of c)
   good = good-entries (c .head) (valid .fields .some-letter) 0 (c .formulas) (zero-add _ ∙ valid .long) (valid .formulas)
 
-  small : All Small (entries-of c)
+  pub small : All Small (entries-of c)
   small = all-weaker _ Small (λ e g. g .1) (entries-of c) good
 
   fitting : All Fitting (payloads c)

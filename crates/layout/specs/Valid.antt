@@ -3,7 +3,7 @@ use mathlib.Core.Bool.{Bool, true, _&&_}
 use mathlib.Core.List.{List, [], _∷_}
 use mathlib.Core.Path.{_≡_}
 use Prim.Native.Nat.{ℕ, _+_, _*_, _^_, _≤_, _<_}
-use lib.Dec.{leb}
+use lib.Dec.{eqb, leb, ltb}
 use lib.ListN.{length}
 use Rattle.formula.specs.declared.token.Token.{Token}
 use Rattle.formula.specs.Shape.{shaped}
@@ -30,3 +30,9 @@ pub record Valid (c : Content) : Type 0 where
   pub long : length (c .formulas) ≡ c .head .locations * c .head .letters
   pub formulas : every (proper (c .head)) (c .formulas) ≡ true
   pub tokens : sizes (c .formulas) ≤ 4096
+
+-- the same as a test, for a field's invariant
+abbrev pub is-valid : Content → Bool
+is-valid c =
+    (ltb 0 (c .head .locations) && (leb (c .head .locations) 32 && (ltb 0 (c .head .letters) && (leb (c .head .letters) 8 && ltb (c .head .initial) (c .head .locations)))))
+    && (ltb (c .head .accepting) (2 ^ c .head .locations) && (eqb (length (c .formulas)) (c .head .locations * c .head .letters) && (every (proper (c .head)) (c .formulas) && leb (sizes (c .formulas)) 4096)))

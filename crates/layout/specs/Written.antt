@@ -58,5 +58,6 @@ entries-from letters q ((t ∷ ts) ∷ table) =
 abbrev pub entries-of : Content → List Entry
 entries-of c = entries-from (c .head .letters) 0 (c .formulas)
 
-abbrev pub written : Content → List ℕ
+-- (it stays shut too, so that a goal about a sheet can be read)
+unfoldable pub written : Content → List ℕ
 written c = sealed 0 (head-payload (c .head)) ++ sealed-from 1 (bodies (entries-of c))

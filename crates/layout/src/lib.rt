@@ -1,1 +1,5 @@
 // Writing sheets: the bytes of a content, block by block.
+mod cursor;
+mod put;
+pub mod source;
+pub mod write;

@@ -1,0 +1,4 @@
+pub mod Automata
+pub mod Founds
+pub mod Spans
+pub mod Tables
