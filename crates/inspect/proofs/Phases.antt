@@ -18,7 +18,7 @@ use Rattle.inspect.specs.Checks.{Check, length-check, all-block-checks, head-c
 use Rattle.inspect.specs.Entries.{Placed, all-entries}
 use Rattle.inspect.specs.Format.{block, blocks, head}
 use Rattle.inspect.specs.Refusals.{place, refused}
-use Rattle.inspect.proofs.FirstOf.{first-append, first-append-some, first-none}
+use Rattle.inspect.proofs.FirstOf.{all-parts, first-append, first-append-some, first-none}
 use Rattle.inspect.proofs.Passing.{Fitting}
 
 -- entries that are all in place lie before byte 510
@@ -80,3 +80,11 @@ module _ (asked : Asked) (xs : List ℕ) where
 
   pub entries-fit : first (entry-checks h 0 0 es) ≡ None → Fitting es
   entries-fit e = in-place-fits h 0 0 es (first-none (entry-checks h 0 0 es) e)
+
+  -- nothing amiss: every entry lies before byte 510
+  pub sound-fits : first (checks asked xs) ≡ None → Fitting es
+  sound-fits e =
+      let all = first-none (checks asked xs) e in
+      let blocks-pass = all-parts (λ c. c .holds ≡ true) (all-block-checks xs 0 (blocks xs)) head-on (all .1) in
+      let head-pass = all-parts (λ c. c .holds ≡ true) (head-checks asked (block xs 0)) entries-on (blocks-pass .1) in
+      in-place-fits h 0 0 es (all-parts (λ c. c .holds ≡ true) (entry-checks h 0 0 es) (token-checks h es) (head-pass .1) .0)

@@ -6,6 +6,7 @@ use Rattle.inspect.specs.Denotes.{Content}
 use Rattle.layout.specs.Valid.{Valid, is-valid}
 
 pub test-valid : (c : Content) → is-valid c ≡ true → Valid c
+unfolding is-valid
 test-valid c t =
     let all = and-parts _ _ t in
     let l = and-parts _ _ (all .0) in
@@ -24,6 +25,7 @@ test-valid c t =
     }
 
 pub valid-test : (c : Content) → Valid c → is-valid c ≡ true
+unfolding is-valid
 valid-test c v =
     let f = v .fields in
     and-from _ _

@@ -31,8 +31,8 @@ pub record Valid (c : Content) : Type 0 where
   pub formulas : every (proper (c .head)) (c .formulas) ≡ true
   pub tokens : sizes (c .formulas) ≤ 4096
 
--- the same as a test, for a field's invariant
-abbrev pub is-valid : Content → Bool
+-- the same as a test, for a field's invariant (it stays shut, so that a goal about a record can be read)
+unfoldable pub is-valid : Content → Bool
 is-valid c =
     (ltb 0 (c .head .locations) && (leb (c .head .locations) 32 && (ltb 0 (c .head .letters) && (leb (c .head .letters) 8 && ltb (c .head .initial) (c .head .locations)))))
     && (ltb (c .head .accepting) (2 ^ c .head .locations) && (eqb (length (c .formulas)) (c .head .locations * c .head .letters) && (every (proper (c .head)) (c .formulas) && leb (sizes (c .formulas)) 4096)))

@@ -1,1 +1,2 @@
+pub mod Denoteds
 pub mod Stored
