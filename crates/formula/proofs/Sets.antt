@@ -2,13 +2,13 @@
 use mathlib.Core.Path.{_≡_, refl, sym, ap, ap₂, _∙_}
 use mathlib.Core.Bool.{true, false, not, _&&_, _||_, or-assoc as either-assoc}
 use Prim.Native.Nat.{ℕ, zero, suc, _+_, _-_, _*_, _/_, _%_, _^_, _≤_, _<_}
-use native.Mathlib.Nat.{zero-div, div-one, mod-one, div-eq-of-lt, pow-suc}
+use native.Mathlib.Nat.{zero-div, div-one, mod-one, div-eq-of-lt, mod-eq-of-lt, mul-mod-left, pow-suc}
 use native.Mathlib.Numerals.{add-one, one-add}
 use native.Mathlib.Omega.{arith}
-use lib.Bits.{bitAnd, bitOr}
+use lib.Bits.{bitAnd, bitOr, or-zero-r}
 use lib.Dec.{eqb, ltb, eqb·zero-suc, eqb·suc-zero, eqb·suc-suc, leb·suc-zero, leb·suc-suc, leb·zero}
 use lib.Pow.{pow-mono, mod-mod-pow, field}
-use Rattle.std.proofs.shelf.Bits.{and-shr, or-shr, and-mod, or-mod, and-mask, or-comm, or-lt, one-shl, pow-below, shr-shr}
+use Rattle.std.proofs.shelf.Bits.{and-shr, or-shr, and-mod, or-mod, and-mask, or-comm, or-lt, one-shl, pow-add, pow-below, shr-shr}
 use Rattle.std.proofs.shelf.Ways.{tells}
 use Rattle.formula.specs.Sets.{has}
 
@@ -117,3 +117,12 @@ has-insert m l i h =
 
 pub insert-below : (n m l : ℕ) → n ≤ 32 → l < n → m < 2 ^ n → bitOr m ((1 * 2 ^ l) % 2 ^ 32) < 2 ^ n
 insert-below n m l w h k = rw (one-shl l 32 (omega arith)) (or-lt n m (2 ^ l) k (pow-below l n h))
+
+-- a location past the width has no bit
+pub insert-past : (n m l : ℕ) → m < 2 ^ n → n ≤ l → bitOr m (2 ^ l) % 2 ^ n ≡ m
+insert-past n m l h k = or-mod m (2 ^ l) n ∙ ap₂ bitOr (mod-eq-of-lt h) none ∙ or-zero-r m
+  where
+    none : 2 ^ l % 2 ^ n ≡ 0
+    none =
+        let split : l ≡ (l - n) + n = omega arith in
+        ap (λ k. 2 ^ k % 2 ^ n) split ∙ ap (λ p. p % 2 ^ n) (pow-add 2 (l - n) n) ∙ mul-mod-left (2 ^ (l - n)) (2 ^ n)

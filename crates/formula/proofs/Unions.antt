@@ -1,9 +1,10 @@
 -- A set and its rising spelling: each gives the other back, and no formula that names the set is shorter. Assumes nothing.
 use mathlib.Core.Path.{_≡_, refl, sym, ap, ap₂, _∙_}
 use mathlib.Core.Bool.{Bool, true, false, _||_, cond}
+use mathlib.Core.Logic.{⊎-elim}
 use mathlib.Core.List.{List, [], _∷_, _++_, append-nil}
 use Prim.Native.Nat.{ℕ, zero, suc, pred, _+_, _-_, _*_, _/_, _%_, _^_, _≤_, _<_, zero-le}
-use native.Mathlib.Nat.{mod-one, mod-eq-of-lt, zero-add, one-mul}
+use native.Mathlib.Nat.{mod-one, mod-eq-of-lt, mod-mod, zero-add, one-mul}
 use native.Mathlib.Numerals.{add-one, one-add}
 use native.Mathlib.Omega.{arith}
 use lib.Bits.{bitOr, or-shifted-r, or-zero-r}
@@ -11,11 +12,13 @@ use lib.Dec.{eqb, ltb}
 use lib.ListN.{length, getD}
 use Rattle.std.specs.Iters.{counting}
 use Rattle.std.specs.shelf.Lists.{All, kept-by}
-use Rattle.std.proofs.shelf.Bits.{or-lt, pow-pos, pow-below, mod-pow-add, mod-below}
+use Rattle.std.specs.shelf.Maps.{nth}
+use Rattle.std.specs.declared.option.Option.the-variants.{Some}
+use Rattle.std.proofs.shelf.Bits.{or-lt, or-mod, pow-pos, pow-below, mod-pow-add, mod-below}
 use Rattle.std.proofs.shelf.Counted.{length-counting, getD-counting, kept-by-map-counting-more}
 use Rattle.std.proofs.shelf.Elements.{all-from-getD, all-kept-by}
 use Rattle.std.proofs.shelf.Lists.{length-append, nil-from-length, map-id}
-use Rattle.std.proofs.shelf.Tests.{and-parts, eqb-true}
+use Rattle.std.proofs.shelf.Tests.{and-parts, cases-lt, eqb-true}
 use Rattle.std.proofs.shelf.Ways.{tells}
 use Rattle.formula.specs.declared.token.Token.{Token}
 use Rattle.formula.specs.declared.token.Token.the-variants.{Location, True, False, And, Or}
@@ -42,6 +45,12 @@ named-below n (Or ∷ ts) h = named-below n ts (h .1)
 
 pub named-push : (ts : List Token) (l : ℕ) → named (ts ++ Location l ∷ []) ≡ bitOr (named ts) (2 ^ l)
 named-push ts l = named-append ts (Location l ∷ []) ∙ ap (bitOr (named ts)) (or-zero-r (2 ^ l))
+
+-- one token more, in a mask of n bits
+pub named-mod-push : (n : ℕ) (ts : List Token) (t : Token) → bitOr (named ts % 2 ^ n) (named (t ∷ [])) % 2 ^ n ≡ named (ts ++ t ∷ []) % 2 ^ n
+named-mod-push n ts t =
+    or-mod (named ts % 2 ^ n) (named (t ∷ [])) n ∙ ap (λ m. bitOr m (named (t ∷ []) % 2 ^ n)) (mod-mod (named ts) (2 ^ n))
+    ∙ sym (ap (λ m. m % 2 ^ n) (named-append ts (t ∷ [])) ∙ or-mod (named ts) (named (t ∷ [])) n)
 
 pub members-more : (n mask : ℕ) → members (n + 1) mask ≡ members n mask ++ cond (has mask n) (n ∷ []) []
 members-more n mask =
@@ -135,14 +144,47 @@ length-listed (l ∷ ls) = omega (arith, go ls)
 pub length-spelling : (n mask : ℕ) → length (spelling n mask) ≡ length (members n mask) + (length (members n mask) - 1)
 length-spelling n mask = length-listed (members n mask)
 
-length-members : (n mask : ℕ) → length (members (suc n) mask) ≡ length (members n mask) + cond (has mask n) 1 0
-length-members n mask =
-    ap (λ k. length (members k mask)) (sym (add-one n)) ∙ ap length (members-more n mask)
-    ∙ length-append (members n mask) (cond (has mask n) (n ∷ []) []) ∙ ap (λ k. length (members n mask) + k) (one (has mask n))
+pub length-members-more : (n mask : ℕ) → length (members (n + 1) mask) ≡ length (members n mask) + cond (has mask n) 1 0
+length-members-more n mask =
+    ap length (members-more n mask) ∙ length-append (members n mask) (cond (has mask n) (n ∷ []) [])
+    ∙ ap (λ k. length (members n mask) + k) (one (has mask n))
   where
     one : (b : Bool) → length (cond b (n ∷ []) []) ≡ cond b 1 0
     one true = refl
     one false = refl
+
+length-members : (n mask : ℕ) → length (members (suc n) mask) ≡ length (members n mask) + cond (has mask n) 1 0
+length-members n mask = ap (λ k. length (members k mask)) (sym (add-one n)) ∙ length-members-more n mask
+
+pub members-few : (n mask : ℕ) → length (members n mask) ≤ n
+members-few zero mask = zero-le
+members-few (suc n) mask = rw (length-members n mask) (go _ (has mask n) (members-few n mask))
+  where
+    go : (m : ℕ) (b : Bool) → m ≤ n → m + cond b 1 0 ≤ suc n
+    go m true h = omega arith
+    go m false h = omega arith
+
+-- a member stands behind those below it
+pub member-at : (n mask l : ℕ) → l < n → has mask l ≡ true → nth (members n mask) (length (members l mask)) ≡ Some l
+member-at zero mask l h e = absurd (omega arith)
+member-at (suc n) mask l h e =
+    ap (λ k. nth (members k mask) (length (members l mask))) (sym (add-one n))
+    ∙ ap (λ ls. nth ls (length (members l mask))) (members-more n mask)
+    ∙ ⊎-elim (λ k. front (members n mask) _ _ (member-at n mask l k e)) here (cases-lt l n)
+  where
+    front : (xs ys : List ℕ) (k : ℕ) → nth xs k ≡ Some l → nth (xs ++ ys) k ≡ Some l
+    front [] ys k h = absurd (let z : _≡_ {A = ℕ} 0 1 = cc in omega arith)
+    front (x ∷ xs) ys zero h = h
+    front (x ∷ xs) ys (suc k) h = front xs ys k h
+
+    last : (xs : List ℕ) → nth (xs ++ l ∷ []) (length xs) ≡ Some l
+    last [] = refl
+    last (x ∷ xs) = last xs
+
+    here : n ≤ l → nth (members n mask ++ cond (has mask n) (n ∷ []) []) (length (members l mask)) ≡ Some l
+    here k =
+        let same : n ≡ l = omega arith in
+        rw same (ap (λ b. nth (members l mask ++ cond b (l ∷ []) []) (length (members l mask))) e ∙ last (members l mask))
 
 -- a location that is put in adds at most itself
 members-grow : (n l mask : ℕ) → length (members n (bitOr (2 ^ l) mask)) ≤ length (members n mask) + cond (ltb l n) 1 0

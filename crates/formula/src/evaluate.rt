@@ -3,6 +3,7 @@ ghost use mathlib.Core.Path.{_≡_};
 ghost use Rattle.formula.specs.Machine.{evaluated, step, Values};
 ghost use Rattle.formula.specs.Sets.{has};
 ghost use Rattle.formula.specs.Stack.{values, Waits};
+use crate::set::contains;
 use crate::stack::Stack;
 use crate::token::Token;
 
@@ -30,13 +31,6 @@ fn read(stack: Stack, token: Token, set: u32) -> Option<Stack>
         Token::And => stack.and(),
         Token::Or => stack.or(),
     }
-}
-
-// Whether the location is in the set, which has no bit past the 32nd.
-fn contains(set: u32, location: u8) -> bool
-    ensures { λ r. ⌜ r ≡ has set location ⌝ }
-{
-    location < 32 && set >> location & 1 == 1
 }
 
 #[cfg(test)]

@@ -5,7 +5,7 @@ pub mod Heads
 pub mod Packing
 pub mod Pastes
 pub mod Sheets
-pub mod Stand
+pub mod Standing
 pub mod Successors
 pub mod Tables
 pub mod Valids

@@ -2,4 +2,6 @@
 mod cursor;
 mod put;
 pub mod source;
+#[cfg(test)]
+mod tests;
 pub mod write;

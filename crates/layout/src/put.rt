@@ -1,5 +1,5 @@
 // The parts of a sheet that no table is needed for, each laid over what `out` holds.
-ghost use mathlib.Core.List.{[], _∷_};
+ghost use mathlib.Core.List.{_∷_};
 ghost use mathlib.Core.Path.{_≡_};
 ghost use Prim.Native.Nat.{_+_, _*_, _≤_, _<_};
 ghost use lib.ListN.{length};
@@ -50,11 +50,9 @@ fn put_check(out: &mut [u8], k: usize)
 {
     let start = k * BLOCK;
     let check = check_sum(&out[start..start + BLOCK]);
-    put(
-        out,
-        start + CHECK,
-        &[(check % 256) as u8, (check / 256) as u8],
-    );
+    let low = (check % 256) as u8;
+    let high = (check / 256) as u8;
+    put(out, start + CHECK, &[low, high]);
 }
 
 // The end of the block that is open.

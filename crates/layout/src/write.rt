@@ -1,11 +1,10 @@
 // Writing a sheet: its blocks are counted first, so that a sheet that does not fit leaves every byte as it was.
-ghost use mathlib.Core.List.{[], map, _++_};
+ghost use mathlib.Core.List.{map, _++_};
 ghost use mathlib.Core.Path.{_≡_};
 ghost use Prim.Native.Nat.{suc, _+_, _*_, _≤_, _<_};
-ghost use lib.ListN.{length, getD, drop};
+ghost use lib.ListN.{length, drop};
 ghost use Rattle.formula.specs.Tokens.{code};
 ghost use Rattle.inspect.specs.Denotes.{entry-bytes};
-ghost use Rattle.layout.specs.Cursors.{position};
 ghost use Rattle.layout.specs.Pasted.{pasted};
 ghost use Rattle.layout.specs.Standing.{tokens-at, entry-at, entries-at, Stands};
 ghost use Rattle.layout.specs.Writes.{Writes, ReadsBack, write-number};
@@ -20,7 +19,7 @@ use crate::source::Source;
 use inspect::block::BLOCK;
 use inspect::head::Head;
 
-#[derive(Clone, Copy)]
+#[derive(Clone, Copy, PartialEq, Eq, Debug)]
 pub enum WriteFault {
     TooFewBytes,
 }

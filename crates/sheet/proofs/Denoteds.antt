@@ -46,7 +46,7 @@ module _ (xs : List ℕ) (h : Head) (d : Denoted xs h) where
       rw (← denoted-is) (denotes-valid (d .0) xs (d .1) all (d .2))
 
 -- a head of this sort, by its fields
-head-is : (s : Sort) (h : Head) → h .sort ≡ s → head-of s (h .locations) (h .letters) (h .initial) (h .accepting) ≡ h
+pub head-is : (s : Sort) (h : Head) → h .sort ≡ s → head-of s (h .locations) (h .letters) (h .initial) (h .accepting) ≡ h
 head-is s h is = ap (λ t. head-of t (h .locations) (h .letters) (h .initial) (h .accepting)) (sym is)
 
 pub rule-is : (xs : List ℕ) (h : Head) (t : Table) → Denoted xs h → h .sort ≡ sort.Rule → formulas t ≡ contents xs .formulas → rule-of (h .locations) (h .letters) (h .initial) (h .accepting) t ≡ contents xs

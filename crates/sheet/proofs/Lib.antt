@@ -1,2 +1,3 @@
 pub mod Denoteds
+pub mod Modelled
 pub mod Stored

@@ -54,6 +54,13 @@ impl Table {
         Ok(())
     }
 
+    // How many cells there are.
+    pub(crate) fn cells(&self) -> usize
+        ensures { λ r. ⌜ r ≡ length (formulas (now (self .entry))) ⌝ }
+    {
+        self.spans.len()
+    }
+
     // The tokens of a cell: none where there is no such cell.
     pub(crate) fn formula(&self, cell: usize) -> &[Token]
         ensures { λ r. ⌜ now r ≡ getD (formulas (now (self .entry))) cell [] ⌝ }

@@ -1,7 +1,9 @@
 // Why a sheet was not loaded.
 ghost use mathlib.Core.Path.{_≡_};
+ghost use Rattle.sheet.specs.Errors.{load-refusal};
 ghost use Rattle.sheet.specs.declared.error.LoadError.the-variants.{Refused as RefusedBy, Memory as NoMemory};
 use inspect::fault::BlockFault;
+use inspect::fault::Refusal;
 use std::alloc::AllocError;
 
 #[derive(Clone, Copy)]
@@ -25,5 +27,17 @@ pub impl From<AllocError> for LoadError as LoadFromAlloc {
 
     fn from(_: AllocError) -> LoadError {
         LoadError::Memory
+    }
+}
+
+impl LoadError {
+    // The refusal's layer, number and place: none for want of memory.
+    pub fn refusal(self) -> Option<Refusal>
+        ensures { λ r. ⌜ r ≡ load-refusal self ⌝ }
+    {
+        match self {
+            LoadError::Refused(fault) => Some(fault.refusal()),
+            LoadError::Memory => None,
+        }
     }
 }

@@ -9,7 +9,7 @@ use Rattle.layout.specs.Pasted.{pasted}
 use Rattle.layout.specs.Standing.{entry-at, entries-at, Stands}
 use Rattle.layout.specs.Written.{written}
 use Rattle.layout.proofs.Cells.{cell-short, entries-skip}
-use Rattle.layout.proofs.Stand.{stands-same, Laid, cell-laid}
+use Rattle.layout.proofs.Standing.{stands-same, Laid, cell-laid}
 use Rattle.layout.proofs.write.put_cell.Given as given
 use Rattle.layout.proofs.write.put_cell.Needs as need
 use Rattle.layout.proofs.write.put_cell.Needs.{Else-tokens-eq0}

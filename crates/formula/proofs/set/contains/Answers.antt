@@ -6,7 +6,7 @@ use borrow.Author.Tests.{le-ltb}
 use lib.Dec.{eqb}
 use lib.Pow.{pow-mono}
 use Rattle.std.proofs.shelf.Bits.{and-mask}
-use Rattle.formula.proofs.evaluate.contains.Needs as need
+use Rattle.formula.proofs.set.contains.Needs as need
 
 pub returns-then-location-lt32 : need.returns-then-location-lt32
 returns-then-location-lt32 c = ap (λ n. eqb n 1) (and-mask _ 1)

@@ -1,0 +1,22 @@
+use mathlib.Core.Path.{sym, ap, _∙_}
+use native.Mathlib.Omega.{arith}
+use lib.ListN.{getD}
+use Rattle.std.specs.Of.Vec.{vec-items}
+use Rattle.std.proofs.shelf.Lists.{getD-read-under}
+use Rattle.formula.specs.declared.token.Token.the-variants.{False}
+use Rattle.formula.specs.Unions.{spelling}
+use Rattle.sheet.proofs.Modelled.{spelled-at, spelled-past}
+use Rattle.sheet.proofs.models.ModelSource.token.Needs as need
+
+pub returns-then-cell-len : need.returns-then-cell-len
+returns-then-cell-len c =
+    let self = c .args .self .now in
+    let sets = vec-items (self .successors) in
+    c .spelling-token .ensures
+    ∙ ap (λ m. getD (spelling (self .locations) m) (c .args .i) False) (getD-read-under sets (c .args .cell) _ _ 0 (c .index .ensures) (c .if-cell-len .taken) (c .len .ensures ∙ self .successors .ok .0))
+    ∙ ap (λ ts. getD ts (c .args .i) False) (sym (spelled-at (self .locations) sets (c .args .cell) (omega (arith, self .successors .ok .0))))
+
+pub returns-else-cell-len : need.returns-else-cell-len
+returns-else-cell-len c =
+    let self = c .args .self .now in
+    ap (λ ts. getD ts (c .args .i) False) (sym (spelled-past (self .locations) (vec-items (self .successors)) (c .args .cell) (omega (arith, self .successors .ok .0))))
