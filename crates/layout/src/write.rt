@@ -17,7 +17,6 @@ use crate::put::put_end;
 use crate::put::put_head;
 use crate::source::Source;
 use inspect::block::BLOCK;
-use inspect::head::Head;
 
 #[derive(Clone, Copy, PartialEq, Eq, Debug)]
 pub enum WriteFault {
@@ -38,19 +37,12 @@ impl WriteFault {
 // How many bytes an entry has before its tokens: location, letter and length.
 const PREFIX: usize = 3;
 
-// How many cells the table has.
-fn cells(head: Head) -> usize
-    ensures { λ r. ⌜ r ≡ head .locations * head .letters ⌝ }
-{
-    usize::from(head.locations) * usize::from(head.letters)
-}
-
 // How many blocks the sheet has, with the head's.
 fn count_blocks<S: Source>(source: &S) -> usize
     ensures { λ r. ⌜ r ≡ suc (length (bodies (entries-of (content (now (source .entry)))))) ⌝ }
 {
     let mut cursor = BEHIND_HEAD;
-    for cell in 0..cells(source.head()) {
+    for cell in 0..source.head().cells() {
         let tokens = source.length(cell);
         if tokens > 0 {
             cursor = cursor.after(PREFIX + tokens);
@@ -104,7 +96,7 @@ fn put_sheet<S: Source>(source: &S, out: &mut [u8])
     let head = source.head();
     put_head(out, head);
     let mut cursor = BEHIND_HEAD;
-    for cell in 0..cells(head) {
+    for cell in 0..head.cells() {
         cursor = put_cell(source, cell, out, cursor);
     }
     put_end(out, cursor);

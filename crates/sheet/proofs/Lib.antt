@@ -1,3 +1,4 @@
 pub mod Denoteds
 pub mod Modelled
+pub mod Satisfied
 pub mod Stored

@@ -6,6 +6,8 @@ use Prim.Native.Nat.{ℕ, _+_, _*_}
 use lib.Dec.{ltb}
 use lib.ListN.{getD}
 use Rattle.formula.specs.declared.token.Token.{Token}
+use Rattle.formula.specs.Formulas.{Formula, never}
+use Rattle.formula.specs.Machine.{Spells}
 use Rattle.inspect.specs.declared.head.Sort.{Sort}
 use Rattle.inspect.specs.Denotes.{Content}
 use Rattle.sheet.specs.declared.rule.Rule.{Rule}
@@ -25,3 +27,8 @@ IsRule r c = rule-content r ≡ c
 -- the tokens for a location and a letter: none where there is no entry
 abbrev pub formula-of : Content → ℕ → ℕ → List Token
 formula-of c l a = cond (ltb l (c .head .locations) && ltb a (c .head .letters)) (getD (c .formulas) (l * c .head .letters + a) []) []
+
+-- the formula that tokens mean: the one that they spell, and false where there are none
+abbrev pub Means : List Token → Formula → Type 0
+Means [] f = f ≡ never
+Means (t ∷ ts) f = Spells f (t ∷ ts)

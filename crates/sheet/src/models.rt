@@ -84,26 +84,26 @@ impl Model {
     }
 
     pub fn locations(&self) -> u8
-        ensures { λ r. ⌜ r ≡ now (self .entry) .locations ⌝ }
+        ensures { λ r. ⌜ r ≡ model-content (now (self .entry)) .head .locations ⌝ }
     {
         self.locations
     }
 
     pub fn letters(&self) -> u8
-        ensures { λ r. ⌜ r ≡ now (self .entry) .letters ⌝ }
+        ensures { λ r. ⌜ r ≡ model-content (now (self .entry)) .head .letters ⌝ }
     {
         self.letters
     }
 
     pub fn initial(&self) -> u8
-        ensures { λ r. ⌜ r ≡ now (self .entry) .initial ⌝ }
+        ensures { λ r. ⌜ r ≡ model-content (now (self .entry)) .head .initial ⌝ }
     {
         self.initial
     }
 
     // The accepting locations, as a mask.
     pub fn accepting(&self) -> u32
-        ensures { λ r. ⌜ r ≡ now (self .entry) .accepting ⌝ }
+        ensures { λ r. ⌜ r ≡ model-content (now (self .entry)) .head .accepting ⌝ }
     {
         self.accepting
     }

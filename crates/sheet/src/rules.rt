@@ -1,18 +1,21 @@
 // Rules: made fresh, loaded from a sheet, written as a sheet, and read.
 ghost use mathlib.Core.Path.{_≡_};
 ghost use Rattle.std.specs.Vec.{made};
+ghost use Rattle.formula.specs.Formulas.{Formula, value};
+ghost use Rattle.formula.specs.Sets.{has};
 ghost use Rattle.inspect.specs.declared.head.Asked.the-variants.{Rule as RuleAsked};
 ghost use Rattle.inspect.specs.declared.head.Sort.the-variants.{Rule as RuleSort};
 ghost use Rattle.inspect.specs.Contents.{contents};
 ghost use Rattle.layout.specs.Writes.{Writes, ReadsBack};
 ghost use Rattle.sheet.specs.Loads.{Denoted, Loaded};
-ghost use Rattle.sheet.specs.Rules.{rule-content, fresh, formula-of, IsRule};
+ghost use Rattle.sheet.specs.Rules.{rule-content, fresh, formula-of, IsRule, Means};
 use crate::error::LoadError;
 use crate::error::LoadFromAlloc;
 use crate::error::LoadFromBlock;
 use crate::reading::read_table;
 use crate::rule::Rule;
 use crate::table::Table;
+use formula::evaluate::evaluate;
 use formula::token::Token;
 use inspect::head::Asked;
 use inspect::head::Head;
@@ -97,6 +100,13 @@ impl Rule {
             return &[];
         }
         self.table.formula(usize::from(location) * usize::from(self.letters) + usize::from(letter))
+    }
+
+    // Whether a set of locations satisfies the formula for a location and a letter. No set does where there is no entry.
+    pub fn satisfied(&self, location: u8, letter: u8, set: u32) -> bool
+        ensures { λ r. ⌜ ((f : Formula) × Means (formula-of (rule-content (now (self .entry))) location letter) f × (r ≡ value (has set) f)) ⌝ }
+    {
+        evaluate(self.formula(location, letter), set).unwrap_or(false)
     }
 
     // Writes the rule's sheet, which read again gives this very rule, to the front of `out`, and says how long it is;

@@ -27,7 +27,7 @@ returns-then-out-length g c =
     let s = g .S·Source .content x in
     let valid = g .S·Source·met .valid x in
     record {
-      writes = (omega (arith, c .count-blocks-length .ensures, written-length s valid, c .if-out-length .taken), refl);
+      writes = (refl, omega (arith, c .count-blocks-length .ensures, written-length s valid, c .if-out-length .taken), refl);
       reads-back = reads-back s valid;
     }
 
@@ -42,6 +42,6 @@ returns g c =
     let valid = g .S·Source·met .valid x in
     let long = ap (λ n. n * 512) (c .count-blocks-length .ensures) ∙ sym (written-length s valid) in
     record {
-      writes = (long, c .put-sheet .ensures ∙ ap (λ n. written s ++ drop n (c .args .out .now)) (sym long));
+      writes = (long, c .if-out-length .left, c .put-sheet .ensures ∙ ap (λ n. written s ++ drop n (c .args .out .now)) (sym long));
       reads-back = reads-back s valid;
     }
