@@ -1,6 +1,6 @@
 // Formulas over locations: tokens, their value against a set, and the formulas that are an or of locations.
 pub mod evaluate;
-mod set;
+pub mod set;
 mod stack;
 pub mod token;
 pub mod union;

@@ -5,7 +5,7 @@ ghost use lib.Bits.{bitOr};
 ghost use Rattle.formula.specs.Sets.{has};
 
 // Whether the location is in the set. The test keeps the shift below the mask's width.
-pub(crate) fn contains(set: u32, location: u8) -> bool
+pub fn contains(set: u32, location: u8) -> bool
     ensures { λ r. ⌜ r ≡ has set location ⌝ }
 {
     location < 32 && set >> location & 1 == 1

@@ -76,8 +76,7 @@ fn show_entry(
     letter: u8,
     tokens: &[Token],
 ) -> Result<(), AnyError> {
-    if !tokens.is_empty() {
-        let formula = infix(rt.alloc(), tokens)?;
+    if let Some(formula) = infix(rt.alloc(), tokens)? {
         println!(rt, "{location} under {letter}: {formula}")?;
     }
     Ok(())

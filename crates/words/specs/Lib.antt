@@ -1,0 +1,4 @@
+pub mod Faults
+pub mod Infix
+pub mod Members
+pub mod Parts

@@ -1,10 +1,14 @@
 // What is wrong with a sheet, in words.
+ghost use mathlib.Core.Path.{_≡_};
+ghost use Rattle.words.specs.Faults.{kind-words, head-words, formula-words, entry-words, words};
 use inspect::fault::BlockFault;
 use inspect::fault::EntryFault;
 use inspect::fault::FormulaFault;
 use inspect::fault::Place;
 
-fn of_kind(place: Place) -> &'static str {
+fn of_kind(place: Place) -> &'static str
+    ensures { λ r. ⌜ now r ≡ kind-words place ⌝ }
+{
     match place {
         Place { block: _, byte: 1 } => "the block does not state its own number",
         Place { block: 0, byte: _ } => "the first block is not a head",
@@ -12,7 +16,9 @@ fn of_kind(place: Place) -> &'static str {
     }
 }
 
-fn of_head(place: Place) -> &'static str {
+fn of_head(place: Place) -> &'static str
+    ensures { λ r. ⌜ now r ≡ head-words (place .byte) ⌝ }
+{
     match place.byte {
         2 => "the sort is not one that is asked for",
         3 => "there are not 1 to 32 locations",
@@ -21,7 +27,9 @@ fn of_head(place: Place) -> &'static str {
     }
 }
 
-fn of_formula(fault: FormulaFault) -> &'static str {
+fn of_formula(fault: FormulaFault) -> &'static str
+    ensures { λ r. ⌜ now r ≡ formula-words fault ⌝ }
+{
     match fault {
         FormulaFault::Token(_) =>
             "no token of this sort of sheet, or a location that the head lacks",
@@ -30,7 +38,9 @@ fn of_formula(fault: FormulaFault) -> &'static str {
     }
 }
 
-fn of_entry(fault: EntryFault) -> &'static str {
+fn of_entry(fault: EntryFault) -> &'static str
+    ensures { λ r. ⌜ now r ≡ entry-words fault ⌝ }
+{
     match fault {
         EntryFault::Entry(_) =>
             "an entry with a location or letter that the head lacks, no tokens, past byte 509, or out of order",
@@ -39,7 +49,9 @@ fn of_entry(fault: EntryFault) -> &'static str {
     }
 }
 
-pub fn in_words(fault: BlockFault) -> &'static str {
+pub fn in_words(fault: BlockFault) -> &'static str
+    ensures { λ r. ⌜ now r ≡ words fault ⌝ }
+{
     match fault {
         BlockFault::Length => "the length is not 1 to 64 blocks of 512 bytes",
         BlockFault::Check(_) => "the block's check does not match its bytes",
