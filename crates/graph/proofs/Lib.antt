@@ -1,0 +1,10 @@
+pub mod Adding
+pub mod Bound
+pub mod Candidates
+pub mod Lists
+pub mod Loops
+pub mod Sets
+pub mod Sums
+pub mod Sweep
+pub mod Verdict
+pub mod Walks

@@ -1,0 +1,9 @@
+pub mod Bring
+pub mod Calls
+pub mod Course
+pub mod Pass
+pub mod Position
+pub mod Record
+pub mod Refusal
+pub mod Standing
+pub mod Turn
