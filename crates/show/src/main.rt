@@ -1,8 +1,6 @@
 // Shows what a sheet says: reads one from standard input and prints what it holds, or why it is refused.
-mod input;
 mod report;
 
-use input::read_sheet;
 use inspect::block::BLOCK;
 use inspect::fault::BlockFault;
 use report::Summary;
@@ -14,6 +12,7 @@ use sheet::automaton::Automaton;
 use sheet::automaton::load;
 use sheet::error::LoadError;
 use std::error::AnyError;
+use stream::read_sheet;
 use words::fault::in_words;
 
 fn show_refusal(rt: &LibcRuntime, fault: BlockFault) -> Result<(), AnyError> {
