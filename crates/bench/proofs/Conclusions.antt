@@ -19,12 +19,12 @@ use Rattle.model_graph.specs.ModelGraph.{graph-of, model-means, content-means}
 use Rattle.bench.specs.Concludes.{Concludes, concluded}
 
 -- an accepted call did what it does
-pub done-by : {A : Type 0} (o : Option Refusal) (a : A) (same : Type 0) (done : A → Type 0) → Turned o (Ok a) same done → done a
-done-by (Some e) a same done t = let z : _≡_ {A = ℕ} 0 1 = cc (t .0) in absurd (omega arith)
+pub done-by : {A : Type 0} (o : Option ℕ) (a : A) (same : Type 0) (done : A → Type 0) → Turned o (Ok a) same done → done a
+done-by (Some n) a same done t = absurd t
 done-by None a same done t = t
 
 -- a call with nothing to turn it down is not turned down
-pub not-turned : {A : Type 0} (o : Option Refusal) (e : Refusal) (same : Type 0) (done : A → Type 0) → o ≡ None → Turned o (Err e) same done → ⊥
+pub not-turned : {A : Type 0} (o : Option ℕ) (e : Refusal) (same : Type 0) (done : A → Type 0) → o ≡ None → Turned o (Err e) same done → ⊥
 not-turned (Some f) e same done is t = let z : _≡_ {A = ℕ} 0 1 = cc in omega arith
 not-turned None e same done is t = t
 
