@@ -11,7 +11,7 @@ pub const PLACES: usize = 512;
 
 const LIMIT: u32 = 100_000;
 
-pub fn conclude<G: Graph>(
+pub(crate) fn conclude<G: Graph>(
     graph: &G,
     outer: &mut [G::State],
     inner: &mut [G::State],

@@ -28,7 +28,7 @@ fn drill_empty(rt: &LibcRuntime, label: &str, more: u8) -> Result<(), AnyError> 
     tell(rt, label, &draft)
 }
 
-pub fn drill_lengths(rt: &LibcRuntime) -> Result<(), AnyError> {
+pub(crate) fn drill_lengths(rt: &LibcRuntime) -> Result<(), AnyError> {
     drill_cut(rt, "0 bytes", 0)?;
     drill_cut(rt, "511 bytes", 511)?;
     drill_cut(rt, "512 bytes, the head alone", 512)?;
@@ -57,7 +57,7 @@ fn drill_low(rt: &LibcRuntime, label: &str, byte_13: u8, stated: &[u8]) -> Resul
     tell(rt, label, &draft)
 }
 
-pub fn drill_checks(rt: &LibcRuntime) -> Result<(), AnyError> {
+pub(crate) fn drill_checks(rt: &LibcRuntime) -> Result<(), AnyError> {
     drill_unsealed(rt, "check of block 0, low byte", at(0, 510), &[0x25])?;
     drill_unsealed(rt, "check of block 0, high byte", at(0, 511), &[0x01])?;
     drill_unsealed(rt, "check of block 1", at(1, 511), &[0xff])?;
@@ -80,7 +80,7 @@ fn drill_change(rt: &LibcRuntime, label: &str, place: Place, new: &[u8]) -> Resu
     tell(rt, label, &draft)
 }
 
-pub fn drill_kinds(rt: &LibcRuntime) -> Result<(), AnyError> {
+pub(crate) fn drill_kinds(rt: &LibcRuntime) -> Result<(), AnyError> {
     drill_change(rt, "kind 2 in block 0", at(0, 0), &[2])?;
     drill_change(rt, "kind 1 in block 1", at(1, 0), &[1])?;
     drill_change(rt, "kind 3 in block 1", at(1, 0), &[3])?;

@@ -22,12 +22,12 @@ pub struct Draft {
     next: u8,
 }
 
-pub fn at(block: u8, byte: u16) -> Place {
+pub(crate) fn at(block: u8, byte: u16) -> Place {
     Place { block, byte }
 }
 
 // Writes over the bytes from `start` on.
-pub fn put_bytes(bytes: &mut [u8], start: usize, new: &[u8]) {
+pub(crate) fn put_bytes(bytes: &mut [u8], start: usize, new: &[u8]) {
     for (to, from) in bytes.iter_mut().skip(start).zip(new.iter()) {
         *to = *from;
     }
@@ -35,7 +35,7 @@ pub fn put_bytes(bytes: &mut [u8], start: usize, new: &[u8]) {
 
 impl Draft {
     // A head alone.
-    pub fn begin(heap: Global, head: Head) -> Result<Draft, AllocError> {
+    pub(crate) fn begin(heap: Global, head: Head) -> Result<Draft, AllocError> {
         let bytes = vec![in heap; 0u8; BLOCK]?;
         let mut draft = Draft { bytes, next: 1 };
         let fields = [head.sort, head.locations, head.letters, head.initial];
@@ -47,7 +47,7 @@ impl Draft {
     }
 
     // Adds a block of entries: FF and zeros follow the body where there is room.
-    pub fn add(&mut self, body: &[u8]) -> Result<(), AllocError> {
+    pub(crate) fn add(&mut self, body: &[u8]) -> Result<(), AllocError> {
         let block = self.next;
         self.next = block.wrapping_add(1);
         self.bytes.extend_from_slice(&[0; BLOCK])?;
@@ -61,32 +61,32 @@ impl Draft {
     }
 
     // Writes over the bytes from a place on, and leaves the check as it is.
-    pub fn put(&mut self, place: Place, new: &[u8]) {
+    pub(crate) fn put(&mut self, place: Place, new: &[u8]) {
         let start = usize::from(place.block) * BLOCK + usize::from(place.byte);
         put_bytes(&mut self.bytes, start, new);
     }
 
     // States the check that the block has.
-    pub fn seal(&mut self, block: u8) {
+    pub(crate) fn seal(&mut self, block: u8) {
         let sum = check_sum(block_at(self.bytes.as_slice(), block));
         self.put(at(block, 510), &sum.to_le_bytes());
     }
 
     // Writes over the bytes from a place on, and seals their block again.
-    pub fn change(&mut self, place: Place, new: &[u8]) {
+    pub(crate) fn change(&mut self, place: Place, new: &[u8]) {
         self.put(place, new);
         self.seal(place.block);
     }
 
-    pub fn cut(&mut self, length: usize) {
+    pub(crate) fn cut(&mut self, length: usize) {
         self.bytes.truncate(length);
     }
 
-    pub fn lengthen(&mut self, more: &[u8]) -> Result<(), AllocError> {
+    pub(crate) fn lengthen(&mut self, more: &[u8]) -> Result<(), AllocError> {
         self.bytes.extend_from_slice(more)
     }
 
-    pub fn bytes(&self) -> &[u8] {
+    pub(crate) fn bytes(&self) -> &[u8] {
         self.bytes.as_slice()
     }
 }

@@ -7,7 +7,7 @@ use std::alloc::AllocError;
 use std::alloc::Global;
 use std::error::AnyError;
 
-pub fn drill_entries(rt: &LibcRuntime) -> Result<(), AnyError> {
+pub(crate) fn drill_entries(rt: &LibcRuntime) -> Result<(), AnyError> {
     tell_body(
         rt,
         "entry of location 1 under letter 1",
@@ -28,7 +28,12 @@ pub fn drill_entries(rt: &LibcRuntime) -> Result<(), AnyError> {
 }
 
 // An entry of `length` tokens: 0 or 0 or .. or 0 where the length is odd.
-pub fn chain(heap: Global, location: u8, letter: u8, length: u8) -> Result<Vec<u8>, AllocError> {
+pub(crate) fn chain(
+    heap: Global,
+    location: u8,
+    letter: u8,
+    length: u8,
+) -> Result<Vec<u8>, AllocError> {
     let mut entry = vec![in heap; location, letter, length]?;
     for i in 0..length {
         entry.push(if i > 0 && i % 2 == 0 { 0x43 } else { 0x00 })?;
@@ -45,7 +50,7 @@ fn drill_end(rt: &LibcRuntime, label: &str, length: u8, behind: &[u8]) -> Result
 }
 
 // A formula has an odd number of tokens, so entries without a fault start at even bytes.
-pub fn drill_ends(rt: &LibcRuntime) -> Result<(), AnyError> {
+pub(crate) fn drill_ends(rt: &LibcRuntime) -> Result<(), AnyError> {
     drill_end(rt, "entry that ends at byte 509", 251, &[])?;
     drill_end(
         rt,
@@ -76,7 +81,7 @@ fn drill_pair(rt: &LibcRuntime, label: &str, first: &[u8], second: &[u8]) -> Res
     tell(rt, label, &draft)
 }
 
-pub fn drill_order(rt: &LibcRuntime) -> Result<(), AnyError> {
+pub(crate) fn drill_order(rt: &LibcRuntime) -> Result<(), AnyError> {
     tell_body(
         rt,
         "location rises and letter falls",

@@ -47,7 +47,7 @@ const HEAD_CHECK: [u8; 2] = [0x24, 0x00];
 // The check of the block of entries.
 const BODY_CHECK: [u8; 2] = [0xac, 0x1c];
 
-pub fn example(heap: Global) -> Result<Draft, AllocError> {
+pub(crate) fn example(heap: Global) -> Result<Draft, AllocError> {
     let mut draft = Draft::begin(heap, HEAD)?;
     draft.add(&BODY)?;
     Ok(draft)
@@ -66,7 +66,7 @@ fn expected(heap: Global) -> Result<Vec<u8>, AllocError> {
 }
 
 // Whether the example is written as it is expected.
-pub fn drill_example(rt: &LibcRuntime) -> Result<(), AnyError> {
+pub(crate) fn drill_example(rt: &LibcRuntime) -> Result<(), AnyError> {
     let expected = expected(rt.alloc())?;
     let Ok(Automaton::Rule(rule)) = load(rt.alloc(), expected.as_slice()) else {
         return Err("the example is not read as a rule".into());

@@ -12,7 +12,7 @@ fn drill_head(rt: &LibcRuntime, label: &str, byte: u16, new: &[u8]) -> Result<()
     tell(rt, label, &draft)
 }
 
-pub fn drill_fields(rt: &LibcRuntime) -> Result<(), AnyError> {
+pub(crate) fn drill_fields(rt: &LibcRuntime) -> Result<(), AnyError> {
     drill_head(rt, "sort 0", 2, &[0])?;
     drill_head(rt, "sort 2", 2, &[2])?;
     drill_head(rt, "sort 3", 2, &[3])?;
@@ -29,7 +29,7 @@ pub fn drill_fields(rt: &LibcRuntime) -> Result<(), AnyError> {
     drill_head(rt, "initial 31 of 32 locations", 3, &[32, 2, 31])
 }
 
-pub fn drill_ignored(rt: &LibcRuntime) -> Result<(), AnyError> {
+pub(crate) fn drill_ignored(rt: &LibcRuntime) -> Result<(), AnyError> {
     drill_head(rt, "accepting bits past the locations", 6, &[0xff; 4])?;
     drill_head(rt, "head byte 10 not zero", 10, &[0xff])?;
     drill_head(rt, "head byte 509 not zero", 509, &[0xff])

@@ -54,7 +54,7 @@ fn drill_both(
     tell(rt, label, &draft)
 }
 
-pub fn drill_two_in_blocks(rt: &LibcRuntime) -> Result<(), AnyError> {
+pub(crate) fn drill_two_in_blocks(rt: &LibcRuntime) -> Result<(), AnyError> {
     drill_both(
         rt,
         "kind in block 0, check in block 1",
@@ -105,7 +105,7 @@ pub fn drill_two_in_blocks(rt: &LibcRuntime) -> Result<(), AnyError> {
     )
 }
 
-pub fn drill_two_in_entries(rt: &LibcRuntime) -> Result<(), AnyError> {
+pub(crate) fn drill_two_in_entries(rt: &LibcRuntime) -> Result<(), AnyError> {
     tell_body(
         rt,
         "token, and location of a later entry",
@@ -132,7 +132,7 @@ pub fn drill_two_in_entries(rt: &LibcRuntime) -> Result<(), AnyError> {
     )
 }
 
-pub fn drill_two_in_crowds(rt: &LibcRuntime) -> Result<(), AnyError> {
+pub(crate) fn drill_two_in_crowds(rt: &LibcRuntime) -> Result<(), AnyError> {
     let mut draft = crowd(rt.alloc(), &[16, 1, 2, 0, 0])?;
     draft.change(at(1, 5), &[0xfe]);
     tell(rt, "4097 tokens, and token fe before", &draft)?;

@@ -22,7 +22,7 @@ fn tell_sort(rt: &LibcRuntime, label: &str, sort: &str) -> Result<(), AnyError> 
 }
 
 // Loads the sheet, and tells what came of it.
-pub fn tell(rt: &LibcRuntime, label: &str, draft: &Draft) -> Result<(), AnyError> {
+pub(crate) fn tell(rt: &LibcRuntime, label: &str, draft: &Draft) -> Result<(), AnyError> {
     match load(rt.alloc(), draft.bytes()) {
         Ok(Automaton::Rule(_)) => tell_sort(rt, label, "rule"),
         Ok(Automaton::Model(_)) => tell_sort(rt, label, "model"),
@@ -32,7 +32,12 @@ pub fn tell(rt: &LibcRuntime, label: &str, draft: &Draft) -> Result<(), AnyError
 }
 
 // The same of a head and one block of entries.
-pub fn tell_body(rt: &LibcRuntime, label: &str, head: Head, body: &[u8]) -> Result<(), AnyError> {
+pub(crate) fn tell_body(
+    rt: &LibcRuntime,
+    label: &str,
+    head: Head,
+    body: &[u8],
+) -> Result<(), AnyError> {
     let mut draft = Draft::begin(rt.alloc(), head)?;
     draft.add(body)?;
     tell(rt, label, &draft)

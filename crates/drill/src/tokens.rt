@@ -20,7 +20,7 @@ pub const LARGE: Head = Head {
     accepting: 0,
 };
 
-pub fn drill_tokens(rt: &LibcRuntime) -> Result<(), AnyError> {
+pub(crate) fn drill_tokens(rt: &LibcRuntime) -> Result<(), AnyError> {
     tell_body(rt, "token 40", HEAD, &[0, 0, 1, 0x40])?;
     tell_body(rt, "token 1f of 32 locations", LARGE, &[0, 0, 1, 0x1f])?;
     tell_body(rt, "token 20 of 32 locations", LARGE, &[0, 0, 1, 0x20])?;
@@ -46,7 +46,7 @@ pub fn drill_tokens(rt: &LibcRuntime) -> Result<(), AnyError> {
     tell_body(rt, "location 2 of 2 in a model", MODEL, &[0, 0, 1, 2])
 }
 
-pub fn drill_values(rt: &LibcRuntime) -> Result<(), AnyError> {
+pub(crate) fn drill_values(rt: &LibcRuntime) -> Result<(), AnyError> {
     tell_body(rt, "or with one value", HEAD, &[0, 0, 2, 0, 0x43])?;
     tell_body(rt, "and with none", HEAD, &[0, 0, 1, 0x42])?;
     tell_body(rt, "two values left", HEAD, &[0, 0, 2, 0, 1])?;
@@ -76,7 +76,7 @@ fn pile(heap: Global, values: u8, connectives: u8) -> Result<Vec<u8>, AllocError
     Ok(entry)
 }
 
-pub fn drill_piles(rt: &LibcRuntime) -> Result<(), AnyError> {
+pub(crate) fn drill_piles(rt: &LibcRuntime) -> Result<(), AnyError> {
     let most = pile(rt.alloc(), 32, 31)?;
     tell_body(
         rt,
@@ -106,7 +106,7 @@ pub fn drill_piles(rt: &LibcRuntime) -> Result<(), AnyError> {
 }
 
 // Sixteen blocks of an entry of 255 tokens each, and a block with one of 15 tokens and the entries `last`.
-pub fn crowd(heap: Global, last: &[u8]) -> Result<Draft, AllocError> {
+pub(crate) fn crowd(heap: Global, last: &[u8]) -> Result<Draft, AllocError> {
     let mut draft = Draft::begin(heap, LARGE)?;
     for location in 0..16 {
         draft.add(chain(heap, location, 0, 255)?.as_slice())?;
@@ -121,7 +121,7 @@ fn drill_crowd(rt: &LibcRuntime, label: &str, last: &[u8]) -> Result<(), AnyErro
     tell(rt, label, &crowd(rt.alloc(), last)?)
 }
 
-pub fn drill_crowds(rt: &LibcRuntime) -> Result<(), AnyError> {
+pub(crate) fn drill_crowds(rt: &LibcRuntime) -> Result<(), AnyError> {
     drill_crowd(rt, "4096 tokens", &[16, 1, 1, 0])?;
     drill_crowd(
         rt,

@@ -20,14 +20,14 @@ pub struct Stack {
 }
 
 impl Stack {
-    pub fn new() -> Stack
+    pub(crate) fn new() -> Stack
         ensures { λ r. ⌜ values (r .count) (r .bits) ≡ [] ⌝ }
     {
         Stack { bits: 0, count: 0 }
     }
 
     // One value more, unless 32 wait.
-    pub fn push(self, value: bool) -> Option<Stack>
+    pub(crate) fn push(self, value: bool) -> Option<Stack>
         ensures { λ r. ⌜ Waits r (λ s. values (s .count) (s .bits)) (pushed value (values (self .count) (self .bits))) ⌝ }
     {
         if self.count < MOST {
@@ -38,7 +38,7 @@ impl Stack {
     }
 
     // The two newest values joined by and, if two wait.
-    pub fn and(self) -> Option<Stack>
+    pub(crate) fn and(self) -> Option<Stack>
         ensures { λ r. ⌜ Waits r (λ s. values (s .count) (s .bits)) (joined (λ x y. x && y) (values (self .count) (self .bits))) ⌝ }
     {
         let (rest, y) = self.pop()?;
@@ -47,7 +47,7 @@ impl Stack {
     }
 
     // The two newest values joined by or, if two wait.
-    pub fn or(self) -> Option<Stack>
+    pub(crate) fn or(self) -> Option<Stack>
         ensures { λ r. ⌜ Waits r (λ s. values (s .count) (s .bits)) (joined (λ x y. x || y) (values (self .count) (self .bits))) ⌝ }
     {
         let (rest, y) = self.pop()?;
@@ -56,7 +56,7 @@ impl Stack {
     }
 
     // The value that waits, if it waits alone.
-    pub fn only(self) -> Option<bool>
+    pub(crate) fn only(self) -> Option<bool>
         ensures { λ r. ⌜ r ≡ only (Some (values (self .count) (self .bits))) ⌝ }
     {
         if self.count == 1 {

@@ -28,7 +28,7 @@ fn verdict<G: Graph>(graph: &G, former: &[G::State], present: &[G::State]) -> Br
 }
 
 // The first o places of outer and the first i of inner are held.
-pub fn bring<G: Graph>(
+pub(crate) fn bring<G: Graph>(
     graph: &G,
     outer: &mut [G::State],
     o: usize,

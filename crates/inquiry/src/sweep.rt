@@ -21,7 +21,7 @@ pub enum Pass {
 }
 
 // Copies all of the first to the front of the second.
-pub fn copy<T: Copy>(from: &[T], to: &mut [T])
+pub(crate) fn copy<T: Copy>(from: &[T], to: &mut [T])
     requires { ⌜ length (now from) ≤ length (now to) ⌝ }
     ensures { λ _. ⌜ take (length (now (from .entry))) (now (to .exit)) ≡ now (from .entry) ⌝ }
 {
@@ -120,7 +120,7 @@ fn letters<G: Graph>(
 }
 
 // Inner is copied to work; every state found from inner is added, then the accepting ones from outer.
-pub fn sweep<G: Graph>(
+pub(crate) fn sweep<G: Graph>(
     graph: &G,
     outer: &[G::State],
     inner: &[G::State],
@@ -140,7 +140,7 @@ pub fn sweep<G: Graph>(
 }
 
 // The tops are added in order to the empty table.
-pub fn tops<G: Graph>(graph: &G, outer: &mut [G::State]) -> Option<Fill>
+pub(crate) fn tops<G: Graph>(graph: &G, outer: &mut [G::State]) -> Option<Fill>
     ensures fills { λ r. ⌜ tabled r (now (outer .exit)) ≡ filled (means (now (graph .entry)) .below) (length (now (outer .entry))) (all-tops (means (now (graph .entry)))) (unchanged []) ⌝ }
     ensures fits { λ r. ⌜ Cases r (Unit {0}) (λ f. f .held ≤ length (now (outer .exit))) ⌝ }
 {

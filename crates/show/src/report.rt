@@ -26,7 +26,7 @@ pub struct Summary {
 }
 
 impl Summary {
-    pub fn of_rule(rule: &Rule) -> Summary {
+    pub(crate) fn of_rule(rule: &Rule) -> Summary {
         Summary {
             locations: rule.locations(),
             letters: rule.letters(),
@@ -35,7 +35,7 @@ impl Summary {
         }
     }
 
-    pub fn of_model(model: &Model) -> Summary {
+    pub(crate) fn of_model(model: &Model) -> Summary {
         Summary {
             locations: model.locations(),
             letters: model.letters(),
@@ -52,7 +52,7 @@ impl Summary {
     }
 }
 
-pub fn show_head(
+pub(crate) fn show_head(
     rt: &LibcRuntime,
     blocks: usize,
     sort: &str,
@@ -82,7 +82,7 @@ fn show_entry(
     Ok(())
 }
 
-pub fn show_rule(rt: &LibcRuntime, rule: &Rule) -> Result<(), AnyError> {
+pub(crate) fn show_rule(rt: &LibcRuntime, rule: &Rule) -> Result<(), AnyError> {
     for location in 0..rule.locations() {
         for letter in 0..rule.letters() {
             show_entry(rt, location, letter, rule.formula(location, letter))?;
@@ -100,7 +100,7 @@ fn spelling(heap: Global, locations: u8, set: u32) -> Result<Vec<Token>, AllocEr
     Ok(tokens)
 }
 
-pub fn show_model(rt: &LibcRuntime, model: &Model) -> Result<(), AnyError> {
+pub(crate) fn show_model(rt: &LibcRuntime, model: &Model) -> Result<(), AnyError> {
     for location in 0..model.locations() {
         for letter in 0..model.letters() {
             let tokens = spelling(
@@ -151,7 +151,7 @@ fn write(automaton: &Automaton, out: &mut [u8]) -> Result<usize, WriteFault> {
     }
 }
 
-pub fn round_trip(rt: &LibcRuntime, automaton: &Automaton) -> Result<(), AnyError> {
+pub(crate) fn round_trip(rt: &LibcRuntime, automaton: &Automaton) -> Result<(), AnyError> {
     let mut out = vec![in rt.alloc(); 0u8; MOST_BLOCKS * BLOCK]?;
     let Ok(length) = write(automaton, &mut out) else {
         return Err("a sheet is longer than any sheet can be".into());

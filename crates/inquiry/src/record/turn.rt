@@ -31,7 +31,7 @@ impl Inquiry {
         self.sweep = 0;
     }
 
-    pub fn turn(&mut self, brought: Brought)
+    pub(crate) fn turn(&mut self, brought: Brought)
         requires { ⌜ Meets (reported (now self)) brought ⌝ }
         ensures { λ _. ⌜ reported (now (self .exit)) ≡ turned brought (reported (now (self .entry))) ⌝ }
     {
