@@ -4,6 +4,7 @@ ghost use mathlib.Core.Path.{_≡_};
 ghost use Prim.Native.Nat.{_≤_};
 ghost use lib.ListN.{length, take};
 ghost use Rattle.std.specs.Options.{Cases};
+ghost use Rattle.std.specs.declared.option.Option.the-variants.{Some};
 ghost use Rattle.graph.specs.Adding.{unchanged, filled};
 ghost use Rattle.graph.specs.Candidates.{found as found-state, by-number, by-state, found-from, all-tops, candidates};
 ghost use Rattle.graph.specs.Meaning.{Meaning};
@@ -39,27 +40,22 @@ fn passes<G: Graph>(graph: &G, pass: Pass, c: G::State) -> bool
     }
 }
 
-// A slot's state is added if it passes.
+// A state found is added if it passes.
 fn found<G: Graph>(
     graph: &G,
     work: &mut [G::State],
     fill: Fill,
     pass: Pass,
-    slot: Option<G::State>,
+    c: G::State,
 ) -> Option<Fill>
     requires { ⌜ fill .held ≤ length (now work) ⌝ }
-    ensures fills { λ r. ⌜ tabled r (now (work .exit)) ≡ filled (means (now (graph .entry)) .below) (length (now (work .entry))) (found-state (passing (means (now (graph .entry))) pass) slot) (table-of fill (now (work .entry))) ⌝ }
+    ensures fills { λ r. ⌜ tabled r (now (work .exit)) ≡ filled (means (now (graph .entry)) .below) (length (now (work .entry))) (found-state (passing (means (now (graph .entry))) pass) (Some c)) (table-of fill (now (work .entry))) ⌝ }
     ensures fits { λ r. ⌜ Cases r (Unit {0}) (λ f. f .held ≤ length (now (work .exit))) ⌝ }
 {
-    match slot {
-        Some(c) => {
-            if passes(graph, pass, c) {
-                add(graph, work, fill, c)
-            } else {
-                Some(fill)
-            }
-        }
-        None => Some(fill),
+    if passes(graph, pass, c) {
+        add(graph, work, fill, c)
+    } else {
+        Some(fill)
     }
 }
 
@@ -77,7 +73,10 @@ fn slots<G: Graph>(
     ensures fits { λ r. ⌜ Cases r (Unit {0}) (λ f. f .held ≤ length (now (work .exit))) ⌝ }
 {
     for i in 0..graph.slots() {
-        fill = found(graph, work, fill, pass, graph.slot(letter, b, i))?;
+        // a slot that holds nothing is the common case, and leaves the fill where it is
+        if let Some(c) = graph.slot(letter, b, i) {
+            fill = found(graph, work, fill, pass, c)?;
+        }
     }
     Some(fill)
 }
