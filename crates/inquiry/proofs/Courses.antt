@@ -1,7 +1,7 @@
 -- Every position that a course reaches keeps the promise. Assumes nothing.
-use mathlib.Core.Bool.{Bool, true, false, cond, _&&_}
-use mathlib.Core.List.{List, []}
-use mathlib.Core.Logic.{_⊎_, inl, inr, ⊎-elim}
+use mathlib.Core.Bool.{true, false, cond, _&&_}
+use mathlib.Core.List.{[]}
+use mathlib.Core.Logic.{_⊎_, ⊎-elim}
 use mathlib.Core.Path.{_≡_, refl, sym, ap, subst, _∙_}
 use Prim.Native.Nat.{ℕ, zero, suc, _+_, _*_, _≤_, _<_}
 use native.Mathlib.Omega.{arith}
@@ -11,21 +11,21 @@ use Rattle.std.specs.declared.option.Option.{Option}
 use Rattle.std.specs.declared.option.Option.the-variants.{Some, None}
 use Rattle.std.proofs.shelf.Tests.{both-ways, cond-both, and-parts, eqb-true, cases-bool}
 use Rattle.graph.specs.Adding.{covered, all-covered, Table, unchanged, filled}
-use Rattle.graph.specs.Candidates.{all-tops, candidates}
+use Rattle.graph.specs.Candidates.{all-tops}
 use Rattle.graph.specs.Lists.{Apart}
 use Rattle.graph.specs.Meaning.{Meaning, Lawful, K}
 use Rattle.graph.specs.Sets.{Y, X, Same, Represents, Sum, Crowded}
 use Rattle.graph.specs.Walks.{Loop}
 use Rattle.graph.proofs.Bound.{Going, going-opened, going-gained, going-round, going-sum, ended-sum, going-below}
-use Rattle.graph.proofs.Candidates.{Sweeps, Brought, Opens, Opened, x-empty, sweeps, opens}
+use Rattle.graph.proofs.Candidates.{Sweeps, Brought, Opened, x-empty, sweeps, opens}
 use Rattle.graph.proofs.Verdict.{round-ends, no-loop, a-loop, loses}
 use Rattle.inquiry.specs.declared.standing.Standing.{Standing}
 use Rattle.inquiry.specs.declared.standing.Standing.the-variants.{Running, Possible, Impossible, Full, Spent}
 use Rattle.inquiry.specs.Course.{Course, by-open, by-run, by-widen, before-full, Promise}
-use Rattle.inquiry.specs.Position.{Position, stands, in-places, held-of, opened, brought, gained, ended, decided, limited, after, swept, ran, widened}
+use Rattle.inquiry.specs.Position.{Position, stands, in-places, held-of, opened, brought, gained, ended, limited, after, swept, ran, widened}
 use Rattle.inquiry.specs.Standing.{standing-number, running, going}
 use Rattle.inquiry.proofs.Longer.{ran-longer, opened-longer}
-use Rattle.inquiry.proofs.Runs.{Bounded, Counts, Once, running-is, swept-once, swept-bounded, ran-none, ran-more, ran-stopped, ran-keeps}
+use Rattle.inquiry.proofs.Runs.{Counts, running-is, swept-once, ran-none, ran-more, ran-stopped, ran-keeps}
 
 -- what every sweep keeps
 pub record Sound {S : Type 0} (m : Meaning S) (p : Position S) : Type 0 where

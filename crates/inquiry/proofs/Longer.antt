@@ -1,21 +1,20 @@
 -- Longer tables: a run that does not end at full is the same in longer tables but for the places, and so is a new opening. Assumes nothing.
 use mathlib.Core.Bool.{Bool, true, false, cond, _&&_}
 use mathlib.Core.List.{List, [], _∷_, _++_}
-use mathlib.Core.Logic.{_⊎_, inl, inr, ⊎-elim}
-use mathlib.Core.Path.{_≡_, refl, sym, ap, subst, _∙_}
-use Prim.Native.Nat.{ℕ, zero, suc, _+_, _≤_, _<_}
+use mathlib.Core.Logic.{_⊎_, ⊎-elim}
+use mathlib.Core.Path.{_≡_, refl, sym, ap, _∙_}
+use Prim.Native.Nat.{ℕ, zero, suc, _+_, _≤_}
 use native.Mathlib.Omega.{arith}
 use lib.Dec.{eqb, ltb}
 use lib.ListN.{length}
 use Rattle.std.specs.declared.option.Option.{Option}
 use Rattle.std.specs.declared.option.Option.the-variants.{Some, None}
-use Rattle.std.proofs.shelf.Tests.{both-ways, cond-true, cases-bool, lt-ltb, ltb-true}
+use Rattle.std.proofs.shelf.Tests.{cond-true, cases-bool, lt-ltb, ltb-true}
 use Rattle.graph.specs.Adding.{covered, staying, Table, unchanged, changed-to, put, and-then, filled}
 use Rattle.graph.specs.Candidates.{all-tops, candidates}
 use Rattle.graph.specs.Meaning.{Meaning}
-use Rattle.inquiry.specs.declared.standing.Standing.{Standing}
-use Rattle.inquiry.specs.declared.standing.Standing.the-variants.{Running, Possible, Impossible, Full, Spent}
-use Rattle.inquiry.specs.Position.{Position, stands, in-places, held-of, opened, brought, gained, ended, decided, limited, after, swept, ran}
+use Rattle.inquiry.specs.declared.standing.Standing.the-variants.{Running, Full, Spent}
+use Rattle.inquiry.specs.Position.{Position, stands, in-places, held-of, opened, brought, gained, ended, limited, after, swept, ran}
 use Rattle.inquiry.specs.Standing.{running}
 use Rattle.inquiry.proofs.Runs.{ran-none, ran-more, ran-stopped}
 

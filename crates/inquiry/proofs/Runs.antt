@@ -1,6 +1,5 @@
 -- Runs: how the count moves, that a stopped inquiry stays, that a sweep counts once or finds no place, and that the limit ends a run. Assumes nothing.
-use mathlib.Core.Bool.{Bool, true, false, cond, _&&_}
-use mathlib.Core.List.{List}
+use mathlib.Core.Bool.{true, false, cond, _&&_}
 use mathlib.Core.Logic.{_⊎_, inl, inr, ⊎-elim}
 use mathlib.Core.Path.{_≡_, refl, sym, ap, subst, _∙_}
 use Prim.Native.Nat.{ℕ, zero, suc, _+_, _≤_, _<_}
@@ -8,7 +7,7 @@ use native.Mathlib.Omega.{arith}
 use lib.Dec.{eqb}
 use Rattle.std.specs.declared.option.Option.{Option}
 use Rattle.std.specs.declared.option.Option.the-variants.{Some, None}
-use Rattle.std.proofs.shelf.Tests.{both-ways, cond-both, cond-true, cond-false, and-cases, and-parts, eqb-false, cases-bool}
+use Rattle.std.proofs.shelf.Tests.{both-ways, cond-both, cond-true, cond-false, and-cases, eqb-false, cases-bool}
 use Rattle.graph.specs.Adding.{covered, all-covered, Table}
 use Rattle.graph.specs.Meaning.{Meaning}
 use Rattle.inquiry.specs.declared.standing.Standing.{Standing}

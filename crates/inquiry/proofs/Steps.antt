@@ -1,17 +1,18 @@
 -- Filling step by step: by number, by held state, and one state found. Assumes nothing.
-use mathlib.Core.Bool.{Bool, true, false, cond}
+use mathlib.Core.Bool.{Bool, true, false, cond, not, _&&_}
 use mathlib.Core.List.{List, [], _∷_, _++_}
-use mathlib.Core.Logic.{⊎-elim}
+use mathlib.Core.Logic.{_⊎_, inl, inr, ⊎-elim}
 use mathlib.Core.Path.{_≡_, refl, sym, ap, subst, _∙_}
 use Prim.Native.Nat.{ℕ, zero, suc, _+_, _≤_, _<_}
 use native.Mathlib.Numerals.{add-one}
 use native.Mathlib.Omega.{arith}
+use lib.Dec.{ltb}
 use lib.ListN.{length, getD, set, take, drop}
 use Rattle.std.specs.declared.option.Option.{Option}
 use Rattle.std.specs.declared.option.Option.the-variants.{Some, None}
 use Rattle.std.proofs.shelf.Lists.{drop-more, drop-all, take-more, take-more-set, take-all}
-use Rattle.std.proofs.shelf.Tests.{cases-lt}
-use Rattle.graph.specs.Adding.{Table, unchanged, put, and-then, filled}
+use Rattle.std.proofs.shelf.Tests.{cases-lt, both-ways, cond-true, and-parts, and-cases, not-false}
+use Rattle.graph.specs.Adding.{covered, staying, Table, unchanged, changed-to, put, and-then, filled}
 use Rattle.graph.specs.Candidates.{found, by-number, by-state}
 use Rattle.graph.proofs.Adding.{filled-append}
 
@@ -23,11 +24,20 @@ module _ {S : Type 0} (below : S → S → Bool) (n : ℕ) where
   pub filled-one : (c : S) (t : Table S) → filled below n (c ∷ []) t ≡ put below n c t
   filled-one c t = one (put below n c t)
 
-  pub found-passes : (pass : S → Bool) (c : S) (t : Table S) (o : Option (Table S)) → true ≡ pass c → o ≡ put below n c t → o ≡ filled below n (found pass (Some c)) t
-  found-passes pass c t o e is = is ∙ sym (filled-one c t) ∙ ap (λ b. filled below n (cond b (c ∷ []) []) t) e
+  -- a state that is wanted is put, and another leaves the table
+  pub found-put : (pass : S → Bool) (c : S) (t : Table S) (o : Option (Table S)) → true ≡ (pass c && not (covered below c (t .held))) → o ≡ put below n c t → o ≡ filled below n (found pass (Some c)) t
+  found-put pass c t o e is = is ∙ sym (filled-one c t) ∙ ap (λ b. filled below n (cond b (c ∷ []) []) t) (sym (and-parts (pass c) (not (covered below c (t .held))) (sym e) .0))
 
-  pub found-skips : (pass : S → Bool) (c : S) (t : Table S) → false ≡ pass c → Some t ≡ filled below n (found pass (Some c)) t
-  found-skips pass c t e = ap (λ b. filled below n (cond b (c ∷ []) []) t) e
+  pub found-skips : (pass : S → Bool) (c : S) (t : Table S) → false ≡ (pass c && not (covered below c (t .held))) → Some t ≡ filled below n (found pass (Some c)) t
+  found-skips pass c t e = go (pass c) refl (and-cases (pass c) (not (covered below c (t .held))) (sym e))
+    where
+      is-held : not (covered below c (t .held)) ≡ false → Some t ≡ put below n c t
+      is-held h = sym (cond-true (covered below c (t .held)) (Some t) (cond (ltb (length (staying below c (t .held))) n) (Some (changed-to (staying below c (t .held) ++ c ∷ []))) None) (not-false (covered below c (t .held)) h))
+
+      go : (b : Bool) → pass c ≡ b → (pass c ≡ false) ⊎ (not (covered below c (t .held)) ≡ false) → Some t ≡ filled below n (cond b (c ∷ []) []) t
+      go false p h = refl
+      go true p (inl f) = absurd (both-ways (pass c) f p)
+      go true p (inr h) = is-held h ∙ sym (filled-one c t)
 
   module _ (f : ℕ → List S) (t u : Table S) (o : Option (Table S)) (i : ℕ) (so-far : filled below n (by-number f i) t ≡ Some u) (here : o ≡ filled below n (f i) u) where
     pub number-more : filled below n (by-number f (i + 1)) t ≡ o

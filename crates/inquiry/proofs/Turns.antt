@@ -2,7 +2,7 @@
 use mathlib.Core.Bool.{Bool, true, false, cond, _&&_}
 use mathlib.Core.List.{List, []}
 use mathlib.Core.Path.{_≡_, refl, sym, ap, subst, _∙_}
-use Prim.Native.Nat.{ℕ, zero, suc, _+_, _≤_, _<_}
+use Prim.Native.Nat.{ℕ, suc, _+_, _≤_}
 use native.Mathlib.Numerals.{add-one}
 use native.Mathlib.Omega.{arith}
 use lib.Dec.{eqb}
@@ -19,7 +19,7 @@ use Rattle.inquiry.specs.declared.report.Report.{Report}
 use Rattle.inquiry.specs.declared.standing.Standing.{Standing}
 use Rattle.inquiry.specs.declared.standing.Standing.the-variants.{Running, Possible, Impossible, Full, Spent}
 use Rattle.inquiry.specs.Bring.{verdict, sweeping, Ended, Brings}
-use Rattle.inquiry.specs.Position.{Position, stands, brought, gained, ended, decided, limited, after, swept}
+use Rattle.inquiry.specs.Position.{Position, stands, gained, ended, decided, limited, after, swept}
 use Rattle.inquiry.specs.Record.{position}
 use Rattle.inquiry.specs.Standing.{running}
 use Rattle.inquiry.specs.Turn.{at-standing, turned, Meets}

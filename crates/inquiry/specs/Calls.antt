@@ -1,6 +1,5 @@
 -- When each call turns its input down, and what a call that is accepted does. Assumes nothing.
-use mathlib.Core.Bool.{Bool, true, false, cond, _&&_}
-use mathlib.Core.List.{List}
+use mathlib.Core.Bool.{false, cond, _&&_}
 use mathlib.Core.Logic.{_⊎_}
 use mathlib.Core.Path.{_≡_}
 use Prim.Native.Nat.{ℕ, _+_, _≤_, _<_}
@@ -12,8 +11,7 @@ use Rattle.std.specs.declared.result.Result.the-variants.{Ok, Err}
 use Rattle.graph.specs.Meaning.{Meaning}
 use Rattle.inquiry.specs.declared.refusal.Refusal.{Refusal}
 use Rattle.inquiry.specs.declared.report.Report.{Report}
-use Rattle.inquiry.specs.declared.standing.Standing.{Standing}
-use Rattle.inquiry.specs.declared.standing.Standing.the-variants.{Running, Full}
+use Rattle.inquiry.specs.declared.standing.Standing.the-variants.{Full}
 use Rattle.inquiry.specs.Position.{Position, in-places, ran}
 use Rattle.inquiry.specs.Refusal.{number}
 use Rattle.inquiry.specs.Standing.{running, full}

@@ -1,7 +1,7 @@
 -- How what was brought moves the record. Assumes nothing.
 use mathlib.Core.Bool.{cond}
 use mathlib.Core.Path.{_≡_}
-use Prim.Native.Nat.{ℕ, _+_, _≤_}
+use Prim.Native.Nat.{_+_, _≤_}
 use lib.Dec.{eqb}
 use Rattle.inquiry.specs.declared.brought.Brought.{Brought}
 use Rattle.inquiry.specs.declared.brought.Brought.the-variants.{NoPlace, Gained, Lost, Settled, Shrunk, Room}

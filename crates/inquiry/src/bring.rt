@@ -2,8 +2,6 @@
 ghost use mathlib.Core.Path.{_≡_};
 ghost use Prim.Native.Nat.{_≤_};
 ghost use lib.ListN.{length, take};
-ghost use Rattle.graph.specs.Adding.{unchanged, filled};
-ghost use Rattle.graph.specs.Candidates.{candidates};
 ghost use Rattle.graph.specs.Meaning.{Meaning};
 ghost use Rattle.inquiry.specs.Bring.{verdict as verdict-of, Brings};
 use super::brought::Brought;

@@ -1,16 +1,17 @@
 // One sweep over lent tables, and the tops of an opening: every state goes in by the one rule of adding.
+ghost use mathlib.Core.Bool.{not, _&&_};
 ghost use mathlib.Core.List.{[]};
 ghost use mathlib.Core.Path.{_≡_};
 ghost use Prim.Native.Nat.{_≤_};
 ghost use lib.ListN.{length, take};
 ghost use Rattle.std.specs.Options.{Cases};
-ghost use Rattle.std.specs.declared.option.Option.the-variants.{Some};
-ghost use Rattle.graph.specs.Adding.{unchanged, filled};
+ghost use Rattle.graph.specs.Adding.{covered as is-covered, unchanged, filled};
 ghost use Rattle.graph.specs.Candidates.{found as found-state, by-number, by-state, found-from, all-tops, candidates};
 ghost use Rattle.graph.specs.Meaning.{Meaning};
 ghost use Rattle.antichain.specs.Fill.{table-of, tabled};
 ghost use Rattle.inquiry.specs.Pass.{passing};
 use antichain::add;
+use antichain::covered;
 use antichain::fill::Fill;
 use graph::Graph;
 
@@ -40,23 +41,12 @@ fn passes<G: Graph>(graph: &G, pass: Pass, c: G::State) -> bool
     }
 }
 
-// A state found is added if it passes.
-fn found<G: Graph>(
-    graph: &G,
-    work: &mut [G::State],
-    fill: Fill,
-    pass: Pass,
-    c: G::State,
-) -> Option<Fill>
-    requires { ⌜ fill .held ≤ length (now work) ⌝ }
-    ensures fills { λ r. ⌜ tabled r (now (work .exit)) ≡ filled (means (now (graph .entry)) .below) (length (now (work .entry))) (found-state (passing (means (now (graph .entry))) pass) (Some c)) (table-of fill (now (work .entry))) ⌝ }
-    ensures fits { λ r. ⌜ Cases r (Unit {0}) (λ f. f .held ≤ length (now (work .exit))) ⌝ }
+// Whether a state found passes and is below no held state. Most are not wanted, and then the fill stays where it is.
+fn wanted<G: Graph>(graph: &G, work: &[G::State], held: usize, pass: Pass, c: G::State) -> bool
+    requires { ⌜ held ≤ length (now work) ⌝ }
+    ensures { λ r. ⌜ r ≡ (passing (means (now (graph .entry))) pass c && not (is-covered (means (now (graph .entry)) .below) c (take held (now (work .entry))))) ⌝ }
 {
-    if passes(graph, pass, c) {
-        add(graph, work, fill, c)
-    } else {
-        Some(fill)
-    }
+    passes(graph, pass, c) && !covered(graph, c, &work[0..held])
 }
 
 // By rising slot.
@@ -73,9 +63,10 @@ fn slots<G: Graph>(
     ensures fits { λ r. ⌜ Cases r (Unit {0}) (λ f. f .held ≤ length (now (work .exit))) ⌝ }
 {
     for i in 0..graph.slots() {
-        // a slot that holds nothing is the common case, and leaves the fill where it is
         if let Some(c) = graph.slot(letter, b, i) {
-            fill = found(graph, work, fill, pass, c)?;
+            if wanted(graph, work, fill.held, pass, c) {
+                fill = add(graph, work, fill, c)?;
+            }
         }
     }
     Some(fill)

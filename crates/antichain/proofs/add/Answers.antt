@@ -1,12 +1,8 @@
 -- Adding puts: c is covered, or what stays leaves a place, or it does not.
-use mathlib.Core.Bool.{true}
-use mathlib.Core.Path.{_≡_, refl, sym, ap, subst, _∙_}
+use mathlib.Core.Path.{_≡_, refl}
 use Prim.Native.Nat.{ℕ, _-_}
-use native.Mathlib.Nat.{sub-zero}
 use native.Mathlib.Omega.{arith}
-use lib.ListN.{length, take, length-set}
-use Rattle.std.proofs.shelf.Tests.{both-ways}
-use Rattle.graph.specs.Adding.{covered}
+use lib.ListN.{length, length-set}
 use Rattle.antichain.proofs.Tables.{take-min, put-covered, put-placed, put-full, not-both}
 use Rattle.antichain.proofs.add.Needs as need
 

@@ -1,7 +1,6 @@
 -- What stays is what passes among the first held states; where as many stay as there are places, nothing was moved.
 use mathlib.Core.Bool.{not}
-use mathlib.Core.Path.{sym, ap, subst, _∙_}
-use Prim.Native.Nat.{_≤_}
+use mathlib.Core.Path.{sym, ap, _∙_}
 use native.Mathlib.Nat.{le-antisymm}
 use native.Mathlib.Omega.{arith}
 use lib.ListN.{take}

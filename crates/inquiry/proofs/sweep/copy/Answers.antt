@@ -1,8 +1,5 @@
 -- Each turn makes one place more of the second as the first.
-use mathlib.Core.List.{_∷_, [], _++_}
-use mathlib.Core.Path.{sym, _∙_, ap}
 use native.Mathlib.Omega.{arith}
-use lib.ListN.{take}
 use Rattle.inquiry.proofs.Steps.{copy-more, copy-all}
 use Rattle.inquiry.proofs.sweep.copy.Needs as need
 

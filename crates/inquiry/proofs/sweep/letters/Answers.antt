@@ -1,5 +1,5 @@
 -- One letter more, or no place.
-use mathlib.Core.Path.{refl, ap}
+use mathlib.Core.Path.{refl}
 use lib.ListN.{length}
 use native.Mathlib.Omega.{arith}
 use Rattle.graph.specs.Candidates.{found, by-number, by-state}

@@ -1,8 +1,6 @@
 -- One held state more, or no place.
-use mathlib.Core.Path.{refl, ap}
 use lib.ListN.{length}
-use native.Mathlib.Omega.{arith}
-use Rattle.graph.specs.Candidates.{found, by-number, by-state}
+use Rattle.graph.specs.Candidates.{found, by-number}
 use Rattle.antichain.specs.Fill.{table-of}
 use Rattle.inquiry.specs.Pass.{passing}
 use Rattle.inquiry.proofs.Steps.{state-all, state-more, state-full}

@@ -1,6 +1,5 @@
 -- The states found from inner, then the accepting ones from outer, into a copy of inner.
 use mathlib.Core.Bool.{true}
-use mathlib.Core.Path.{refl, _∙_}
 use lib.ListN.{length, take}
 use native.Mathlib.Omega.{arith}
 use Rattle.graph.specs.Candidates.{found-from}

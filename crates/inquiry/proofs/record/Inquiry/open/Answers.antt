@@ -8,7 +8,7 @@ use lib.ListN.{length, take}
 use Rattle.graph.specs.Adding.{unchanged, filled}
 use Rattle.graph.specs.Candidates.{all-tops}
 use Rattle.inquiry.specs.Calls.{open-refusal}
-use Rattle.inquiry.specs.Position.{Position, held-of, opened}
+use Rattle.inquiry.specs.Position.{held-of}
 use Rattle.inquiry.specs.Record.{position}
 use Rattle.inquiry.specs.declared.refusal.Refusal.the-variants.{Tables, Limit, Tops}
 use Rattle.inquiry.specs.declared.standing.Standing.the-variants.{Running}

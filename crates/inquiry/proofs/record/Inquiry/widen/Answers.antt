@@ -5,7 +5,6 @@ use Prim.Native.Nat.{_≤_, _<_}
 use native.Mathlib.Omega.{arith}
 use lib.ListN.{length}
 use Rattle.inquiry.specs.Calls.{widen-refusal}
-use Rattle.inquiry.specs.Position.{Position, widened}
 use Rattle.inquiry.specs.Record.{reported, position}
 use Rattle.inquiry.specs.declared.refusal.Refusal.the-variants.{Places, Room, Wider}
 use Rattle.inquiry.proofs.Calls.{turned-down, accepted, widen-places, widen-room, widen-wider, widen-accepted, widened-is, widened-onward, copied-is, stays}
