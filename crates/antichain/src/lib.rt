@@ -11,7 +11,7 @@ pub mod fill;
 
 // Whether c is below one of the states.
 pub fn covered<G: Graph>(graph: &G, c: G::State, states: &[G::State]) -> bool
-    ensures { result ≡ is_covered (means graph.now).below c states.now }
+    ensures { result ≡ is_covered (G.means graph.now).below c states.now }
 {
     for b in states {
         if graph.below(c, *b) {
@@ -23,7 +23,7 @@ pub fn covered<G: Graph>(graph: &G, c: G::State, states: &[G::State]) -> bool
 
 // Whether each of the states is below one of the others.
 pub fn within<G: Graph>(graph: &G, states: &[G::State], others: &[G::State]) -> bool
-    ensures { result ≡ all_covered (means graph.now).below states.now others.now }
+    ensures { result ≡ all_covered (G.means graph.now).below states.now others.now }
 {
     for a in states {
         if !covered(graph, *a, others) {
@@ -37,7 +37,7 @@ pub fn within<G: Graph>(graph: &G, states: &[G::State], others: &[G::State]) -> 
 fn keep<G: Graph>(graph: &G, table: &mut [G::State], held: usize, c: G::State) -> usize
     requires { held ≤ length table.old }
     ensures few { result ≤ held }
-    ensures stay { take result table.new ≡ staying (means graph.now).below c (take held table.old) }
+    ensures stay { take result table.new ≡ staying (G.means graph.now).below c (take held table.old) }
     ensures whole { length table.old ≤ result → table.new ≡ table.old }
 {
     let mut front = 0;
@@ -54,11 +54,11 @@ fn keep<G: Graph>(graph: &G, table: &mut [G::State], held: usize, c: G::State) -
 // Adds c: nothing if it is below a held state; else the held states below it go, and it follows the rest.
 // A table that tells of more states than it has places holds as many as it has.
 pub fn add<G: Graph>(graph: &G, table: &mut [G::State], fill: Fill, c: G::State) -> Option<Fill>
-    ensures put { tabled result table.new ≡ put (means graph.now).below (length table.old) c (table_of fill table.old) }
+    ensures put { tabled result table.new ≡ put (G.means graph.now).below (length table.old) c (table_of fill table.old) }
     ensures fits { IfSome result (λ f. f.held ≤ length table.new) }
     // with no place, or with c below a held state, the table is as it was
     ensures full { result ≡ None → table.new ≡ table.old }
-    ensures same { is_covered (means graph.now).below c (take fill.held table.old) ≡ true → table.new ≡ table.old }
+    ensures same { is_covered (G.means graph.now).below c (take fill.held table.old) ≡ true → table.new ≡ table.old }
 {
     let held = fill.held.min(table.len());
     if covered(graph, c, &table[0..held]) {

@@ -7,5 +7,5 @@ use graph::Graph;
 
 // A graph has an accepting loop exactly when it makes some repeating behaviour.
 pub fn loops_repeat<G: Graph>(graph: &G)
-    ensures { (Loop (means graph.now) → MakesSome (means graph.now)) × (MakesSome (means graph.now) → Loop (means graph.now)) }
+    ensures { (Loop (G.means graph.now) → MakesSome (G.means graph.now)) × (MakesSome (G.means graph.now) → Loop (G.means graph.now)) }
 {}

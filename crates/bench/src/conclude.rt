@@ -16,8 +16,11 @@ pub(crate) fn conclude<G: Graph>(
     inner: &mut [G::State],
     work: &mut [G::State],
 ) -> Report
-    requires { (length outer.old ≡ 512) × ((length inner.old ≡ 512) × ((length work.old ≡ 512) × ((means graph.now).tops ≤ 512))) }
-    ensures { Concludes (means graph.now) result.standing result.round result.count }
+    requires outer { length outer.old ≡ 512 }
+    requires inner { length inner.old ≡ 512 }
+    requires work { length work.old ≡ 512 }
+    requires tops { (G.means graph.now).tops ≤ 512 }
+    ensures { Concludes (G.means graph.now) result.standing result.round result.count }
 {
     let Ok(mut inquiry) = Inquiry::open(graph, outer, inner, work, LIMIT) else {
         unreachable()

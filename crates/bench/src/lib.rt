@@ -43,7 +43,7 @@ fn read_model(heap: Global, sheet: &[u8]) -> Result<Model, LoadError>
 }
 
 fn run_model(heap: Global, model: Model) -> Result<Report, AllocError>
-    ensures* { λ r. ⌜ IfOk r (λ r. Concludes (model_means model) r.standing r.round r.count) ⌝ }
+    ensures { IfOk result (λ report. Concludes (model_means model) report.standing report.round report.count) }
 {
     let mut outer = vec![in heap; 0u8; PLACES]?;
     let mut inner = vec![in heap; 0u8; PLACES]?;

@@ -11,7 +11,7 @@ use graph::Graph;
 
 // How a round ends, by the former outer states and the present ones.
 fn verdict<G: Graph>(graph: &G, former: &[G::State], present: &[G::State]) -> Brought
-    ensures { result ≡ verdict_of (means graph.now) former.now present.now }
+    ensures { result ≡ verdict_of (G.means graph.now) former.now present.now }
 {
     if !covered(graph, graph.start(), present) {
         Brought::Lost
@@ -32,7 +32,7 @@ pub(crate) fn bring<G: Graph>(
     work: &mut [G::State],
 ) -> Brought
     requires { (o ≤ length outer.old) × ((i ≤ length inner.old) × ((length outer.old ≡ length work.old) × (length inner.old ≡ length work.old))) }
-    ensures { Brings (means graph.now) (length work.old) (take o outer.old) (take i inner.old) i outer.old inner.old outer.new inner.new result }
+    ensures { Brings (G.means graph.now) (length work.old) (take o outer.old) (take i inner.old) i outer.old inner.old outer.new inner.new result }
 {
     let Some(Fill { held, changed }) = sweep(graph, &outer[0..o], &inner[0..i], work) else {
         return Brought::NoPlace;

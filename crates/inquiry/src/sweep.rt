@@ -28,7 +28,7 @@ pub(crate) fn copy<T: Copy>(from: &[T], to: &mut [T])
 }
 
 fn passes<G: Graph>(graph: &G, pass: Pass, c: G::State) -> bool
-    ensures { result ≡ passing (means graph.now) pass c }
+    ensures { result ≡ passing (G.means graph.now) pass c }
 {
     match pass {
         Pass::All => true,
@@ -39,7 +39,7 @@ fn passes<G: Graph>(graph: &G, pass: Pass, c: G::State) -> bool
 // Whether a state found passes and is below no held state. Most are not wanted, and then the fill stays where it is.
 fn wanted<G: Graph>(graph: &G, work: &[G::State], held: usize, pass: Pass, c: G::State) -> bool
     requires { held ≤ length work.now }
-    ensures { result ≡ (passing (means graph.now) pass c && not (is_covered (means graph.now).below c (take held work.now))) }
+    ensures { result ≡ (passing (G.means graph.now) pass c && not (is_covered (G.means graph.now).below c (take held work.now))) }
 {
     passes(graph, pass, c) && !covered(graph, c, &work[0..held])
 }
@@ -54,7 +54,7 @@ fn slots<G: Graph>(
     b: G::State,
 ) -> Option<Fill>
     requires { fill.held ≤ length work.old }
-    ensures fills { tabled result work.new ≡ filled (means graph.now).below (length work.old) (by_number (λ i. found_state (passing (means graph.now) pass) ((means graph.now).slot letter b i)) (means graph.now).slots) (table_of fill work.old) }
+    ensures fills { tabled result work.new ≡ filled (G.means graph.now).below (length work.old) (by_number (λ i. found_state (passing (G.means graph.now) pass) ((G.means graph.now).slot letter b i)) (G.means graph.now).slots) (table_of fill work.old) }
     ensures fits { IfSome result (λ f. f.held ≤ length work.new) }
 {
     for i in 0..graph.slots() {
@@ -77,7 +77,7 @@ fn states<G: Graph>(
     letter: u8,
 ) -> Option<Fill>
     requires { fill.held ≤ length work.old }
-    ensures fills { tabled result work.new ≡ filled (means graph.now).below (length work.old) (by_state (λ b. by_number (λ i. found_state (passing (means graph.now) pass) ((means graph.now).slot letter b i)) (means graph.now).slots) from.now) (table_of fill work.old) }
+    ensures fills { tabled result work.new ≡ filled (G.means graph.now).below (length work.old) (by_state (λ b. by_number (λ i. found_state (passing (G.means graph.now) pass) ((G.means graph.now).slot letter b i)) (G.means graph.now).slots) from.now) (table_of fill work.old) }
     ensures fits { IfSome result (λ f. f.held ≤ length work.new) }
 {
     for b in from {
@@ -95,7 +95,7 @@ fn letters<G: Graph>(
     pass: Pass,
 ) -> Option<Fill>
     requires { fill.held ≤ length work.old }
-    ensures fills { tabled result work.new ≡ filled (means graph.now).below (length work.old) (found_from (means graph.now) (passing (means graph.now) pass) from.now) (table_of fill work.old) }
+    ensures fills { tabled result work.new ≡ filled (G.means graph.now).below (length work.old) (found_from (G.means graph.now) (passing (G.means graph.now) pass) from.now) (table_of fill work.old) }
     ensures fits { IfSome result (λ f. f.held ≤ length work.new) }
 {
     for x in 0..graph.letters() {
@@ -112,7 +112,7 @@ pub(crate) fn sweep<G: Graph>(
     work: &mut [G::State],
 ) -> Option<Fill>
     requires { length inner.now ≤ length work.old }
-    ensures fills { tabled result work.new ≡ filled (means graph.now).below (length work.old) (candidates (means graph.now) inner.now outer.now) (unchanged inner.now) }
+    ensures fills { tabled result work.new ≡ filled (G.means graph.now).below (length work.old) (candidates (G.means graph.now) inner.now outer.now) (unchanged inner.now) }
     ensures fits { IfSome result (λ f. f.held ≤ length work.new) }
 {
     copy(inner, work);
@@ -126,7 +126,7 @@ pub(crate) fn sweep<G: Graph>(
 
 // The tops are added in order to the empty table.
 pub(crate) fn tops<G: Graph>(graph: &G, outer: &mut [G::State]) -> Option<Fill>
-    ensures fills { tabled result outer.new ≡ filled (means graph.now).below (length outer.old) (all_tops (means graph.now)) (unchanged []) }
+    ensures fills { tabled result outer.new ≡ filled (G.means graph.now).below (length outer.old) (all_tops (G.means graph.now)) (unchanged []) }
     ensures fits { IfSome result (λ f. f.held ≤ length outer.new) }
 {
     let mut fill = Fill {

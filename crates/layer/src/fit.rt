@@ -17,7 +17,7 @@ fn small(locations: u8, count: u32) -> bool
 
 // Whether the layer would have few enough tops and slots.
 fn few<G: Graph>(model: &Model, below: &G) -> bool
-    ensures { result ≡ few_numbers model.now (means below.now) }
+    ensures { result ≡ few_numbers model.now (G.means below.now) }
 {
     small(model.locations(), below.tops()) && small(model.locations(), below.slots())
 }
@@ -34,7 +34,7 @@ impl<G> Layer<G> {
 impl<G: Graph> Layer<G> {
     // Lays the model over the graph; a model that does not fit is handed back, and the layer stays as it was.
     pub fn fit(&mut self, model: Model) -> Result<(), Misfit>
-        ensures { Fit model (means self.old.below) self.old self.new result }
+        ensures { Fit model (G.means self.old.below) self.old self.new result }
     {
         if model.letters() != self.below.letters() {
             return Err(Misfit::Letters(model));
@@ -48,7 +48,7 @@ impl<G: Graph> Layer<G> {
 
     // The model, if it fits. No field can say that it fits the graph below, so that is asked each time.
     pub(crate) fn fitted(&self) -> Option<&Model>
-        ensures { MatchOption result (fitted_model self.now.model (means self.now.below) ≡ None) (λ t. fitted_model self.now.model (means self.now.below) ≡ Some t.now) }
+        ensures { MatchOption result (fitted_model self.now.model (G.means self.now.below) ≡ None) (λ t. fitted_model self.now.model (G.means self.now.below) ≡ Some t.now) }
     {
         match &self.model {
             Some(model) if model.letters() == self.below.letters() && few(model, &self.below) =>

@@ -33,7 +33,7 @@ const PREFIX: usize = 3;
 
 // How many blocks the sheet has, with the head's.
 fn count_blocks<S: Source>(source: &S) -> usize
-    ensures { result ≡ suc (length (bodies (entries_of (content source.now)))) }
+    ensures { result ≡ suc (length (bodies (entries_of (S.content source.now)))) }
 {
     let mut cursor = BEHIND_HEAD;
     for cell in 0..source.head().cells() {
@@ -46,8 +46,8 @@ fn count_blocks<S: Source>(source: &S) -> usize
 }
 
 fn put_tokens<S: Source>(source: &S, cell: usize, out: &mut [u8], at: usize)
-    requires { at + length (tokens_at (content source.now) cell) ≤ length out.old }
-    ensures { out.new ≡ pasted out.old at (map code (tokens_at (content source.now) cell)) }
+    requires { at + length (tokens_at (S.content source.now) cell) ≤ length out.old }
+    ensures { out.new ≡ pasted out.old at (map code (tokens_at (S.content source.now) cell)) }
 {
     for i in 0..source.length(cell) {
         out[at + i] = source.token(cell, i).byte();
@@ -55,9 +55,9 @@ fn put_tokens<S: Source>(source: &S, cell: usize, out: &mut [u8], at: usize)
 }
 
 fn put_entry<S: Source>(source: &S, cell: usize, out: &mut [u8], at: usize)
-    requires cell_in_bounds { cell < length (content source.now).formulas }
-    requires cell_in_bounds_2 { at + length (entry_bytes (entry_at (content source.now) cell)) ≤ length out.old }
-    ensures { out.new ≡ pasted out.old at (entry_bytes (entry_at (content source.now) cell)) }
+    requires inside { cell < length (S.content source.now).formulas }
+    requires room { at + length (entry_bytes (entry_at (S.content source.now) cell)) ≤ length out.old }
+    ensures { out.new ≡ pasted out.old at (entry_bytes (entry_at (S.content source.now) cell)) }
 {
     let letters = usize::from(source.head().letters);
     let location = (cell / letters) as u8;
@@ -68,10 +68,10 @@ fn put_entry<S: Source>(source: &S, cell: usize, out: &mut [u8], at: usize)
 
 // The entry of a cell, if it has tokens, in the block that is open or the next.
 fn put_cell<S: Source>(source: &S, cell: usize, out: &mut [u8], cursor: Cursor) -> Cursor
-    requires cell_in_bounds { cell < length (content source.now).formulas }
-    requires stands_2 { Stands (content source.now) out.old cursor (entries_at (content source.now) cell) }
-    ensures stands { Stands (content source.now) out.new result (entries_at (content source.now) (cell + 1)) }
-    ensures behind { drop (length (written (content source.now))) out.new ≡ drop (length (written (content source.now))) out.old }
+    requires inside { cell < length (S.content source.now).formulas }
+    requires begun { Stands (S.content source.now) out.old cursor (entries_at (S.content source.now) cell) }
+    ensures stands { Stands (S.content source.now) out.new result (entries_at (S.content source.now) (cell + 1)) }
+    ensures behind { drop (length (written (S.content source.now))) out.new ≡ drop (length (written (S.content source.now))) out.old }
 {
     let tokens = source.length(cell);
     if tokens == 0 {
@@ -84,8 +84,8 @@ fn put_cell<S: Source>(source: &S, cell: usize, out: &mut [u8], cursor: Cursor) 
 }
 
 fn put_sheet<S: Source>(source: &S, out: &mut [u8])
-    requires { length (written (content source.now)) ≤ length out.old }
-    ensures { out.new ≡ written (content source.now) ++ drop (length (written (content source.now))) out.old }
+    requires { length (written (S.content source.now)) ≤ length out.old }
+    ensures { out.new ≡ written (S.content source.now) ++ drop (length (written (S.content source.now))) out.old }
 {
     let head = source.head();
     put_head(out, head);
@@ -98,8 +98,8 @@ fn put_sheet<S: Source>(source: &S, out: &mut [u8])
 
 // Writes the sheet of `source` to the front of `out`, and says how long it is.
 pub fn write<S: Source>(source: &S, out: &mut [u8]) -> Result<usize, WriteFault>
-    ensures writes { Writes (content source.now) out.old out.new result }
-    ensures reads_back { ReadsBack (content source.now) }
+    ensures writes { Writes (S.content source.now) out.old out.new result }
+    ensures reads_back { ReadsBack (S.content source.now) }
 {
     let length = count_blocks(source) * BLOCK;
     if out.len() < length {

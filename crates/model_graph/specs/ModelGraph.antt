@@ -1,5 +1,5 @@
 -- The graph of a model, also of the model that a sheet's content is. Assumes nothing.
-use Rattle.std.specs.Prelude.{◌≡◌, ℕ, ◌+◌, ◌*◌, Bool, true, cond, ◌&&◌, List, map, Some, None, vec_items, Option, nat_lt, slice_index}
+use Rattle.std.specs.Prelude.{◌≡◌, ℕ, ◌+◌, ◌*◌, Bool, true, cond, ◌&&◌, List, map, Some, None, vec_items, Option, nat_eq, nat_lt, slice_index}
 use Rattle.std.specs.List.{range_with_len}
 use Rattle.formula.specs.Sets.{has}
 use Rattle.formula.specs.Unions.{named}
@@ -30,7 +30,7 @@ graph_of h sets =
       states = range_with_len 0 h.locations;
       start = h.initial;
       accepts = has h.accepting;
-      below = eqb;
+      below = nat_eq;
       step = λ x a b. steps h sets x a b ≡ true;
       tops = h.locations;
       top = λ i. cond (nat_lt i h.locations) i h.initial;

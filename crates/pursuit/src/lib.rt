@@ -41,9 +41,9 @@ fn exhaust<G: Graph, W: Watch>(
     work: &mut [G::State],
     watch: &mut W,
 ) -> Report
-    requires { (length outer.old ≡ inquiry.old.places) × ((length inner.old ≡ inquiry.old.places) × ((length work.old ≡ inquiry.old.places) × (Course (means graph.now) (position (reported inquiry.old) outer.old inner.old)))) }
+    requires { (length outer.old ≡ inquiry.old.places) × ((length inner.old ≡ inquiry.old.places) × ((length work.old ≡ inquiry.old.places) × (Course (G.means graph.now) (position (reported inquiry.old) outer.old inner.old)))) }
     ensures is { result ≡ reported inquiry.new }
-    ensures stops { Exhausted (means graph.now) (reported inquiry.old) result outer.new inner.new }
+    ensures stops { Exhausted (G.means graph.now) (reported inquiry.old) result outer.new inner.new }
 {
     loop {
         let report = inquiry.report::<G>();
@@ -65,8 +65,8 @@ fn wider<G: Graph>(
     tables: Tables<G::State>,
     places: usize,
 ) -> Result<Tables<G::State>, AllocError>
-    requires { (inquiry.old.standing ≡ Full) × ((inquiry.old.places < places) × ((places ≤ 4096) × (Placed (means graph.now) inquiry.old tables))) }
-    ensures { IfOk result (λ t. Placed (means graph.now) inquiry.new t × (inquiry.new.places ≡ places) × (inquiry.new.limit ≡ inquiry.old.limit)) }
+    requires { (inquiry.old.standing ≡ Full) × ((inquiry.old.places < places) × ((places ≤ 4096) × (Placed (G.means graph.now) inquiry.old tables))) }
+    ensures { IfOk result (λ t. Placed (G.means graph.now) inquiry.new t × (inquiry.new.places ≡ places) × (inquiry.new.limit ≡ inquiry.old.limit)) }
 {
     let mut longer = make(heap, graph.start(), places)?;
     let Ok(()) = inquiry.widen::<G>(
@@ -84,7 +84,7 @@ fn wider<G: Graph>(
 // An inquiry over the graph, pursued to its end: the report where nothing runs, and where no longer tables can help it if it
 // is full. An error says why it was not opened, or that memory was wanting, at first or for longer tables.
 pub fn pursue<G: Graph, W: Watch>(heap: Global, graph: &G, watch: &mut W) -> Result<Report, Halt>
-    ensures { Outcome (means graph.now) result }
+    ensures { Outcome (G.means graph.now) result }
 {
     let mut tables = make(heap, graph.start(), PLACES)?;
     let mut inquiry = Inquiry::open(graph, &mut tables.outer, &tables.inner, &tables.work, LIMIT)?;

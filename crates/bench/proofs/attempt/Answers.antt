@@ -3,6 +3,6 @@ use Rattle.bench.proofs.attempt.Goals as goal
 
 pub returns : goal.returns
 returns c =
-    let read = c.in-ok-model.ensures in
-    let report = c.in-ok-report.report in
-    (read.0, read.1, as_content c.in-ok-model.model read.0 report.standing report.round report.count read.2 c.in-ok-report.ensures)
+    let read = c.in_ok-model.ensures in
+    let report = c.in_ok-report.report in
+    (read.0, read.1, as_content c.in_ok-model.model read.0 report.standing report.round report.count read.2 c.in_ok-report.ensures)

@@ -25,8 +25,8 @@ impl Inquiry {
         work: &[G::State],
         limit: u32,
     ) -> Result<Inquiry, Refusal>
-        ensures steps { Turned (open_refusal (length outer.old) (length inner.now) (length work.now) limit (means graph.now).tops) result (outer.new ≡ outer.old) (λ i. position (reported i) outer.new inner.now ≡ opened (means graph.now) limit (length outer.old)) }
-        ensures onward { IfOk result (λ i. Course (means graph.now) (position (reported i) outer.new inner.now) × Promise (means graph.now) (position (reported i) outer.new inner.now)) }
+        ensures steps { Turned (open_refusal (length outer.old) (length inner.now) (length work.now) limit (G.means graph.now).tops) result (outer.new ≡ outer.old) (λ i. position (reported i) outer.new inner.now ≡ opened (G.means graph.now) limit (length outer.old)) }
+        ensures onward { IfOk result (λ i. Course (G.means graph.now) (position (reported i) outer.new inner.now) × Promise (G.means graph.now) (position (reported i) outer.new inner.now)) }
     {
         let places = outer.len();
         if places < 1 || places > 4096 || inner.len() != places || work.len() != places {
@@ -63,7 +63,7 @@ impl Inquiry {
         work: &mut [G::State],
     )
         requires { (self.old.standing ≡ Running) × ((length outer.old ≡ self.old.places) × ((length inner.old ≡ self.old.places) × (length work.old ≡ self.old.places))) }
-        ensures sweeps { position (reported self.new) outer.new inner.new ≡ swept (means graph.now) (position (reported self.old) outer.old inner.old) }
+        ensures sweeps { position (reported self.new) outer.new inner.new ≡ swept (G.means graph.now) (position (reported self.old) outer.old inner.old) }
         ensures long { self.new.places ≡ self.old.places }
     {
         let brought = bring(graph, outer, self.outer, inner, self.inner, work);
@@ -79,7 +79,7 @@ impl Inquiry {
         budget: u32,
     )
         requires { (length outer.old ≡ self.old.places) × ((length inner.old ≡ self.old.places) × (length work.old ≡ self.old.places)) }
-        ensures { position (reported self.new) outer.new inner.new ≡ ran (means graph.now) budget (position (reported self.old) outer.old inner.old) }
+        ensures { position (reported self.new) outer.new inner.new ≡ ran (G.means graph.now) budget (position (reported self.old) outer.old inner.old) }
     {
         for done in 0..budget {
             match self.standing {
@@ -98,8 +98,8 @@ impl Inquiry {
         work: &mut [G::State],
         budget: u32,
     ) -> Result<(), Refusal>
-        ensures steps { Turned (run_refusal (reported self.old) (length outer.old) (length inner.old) (length work.old)) result ((self.new ≡ self.old) × (outer.new ≡ outer.old) × (inner.new ≡ inner.old) × (work.new ≡ work.old)) (λ _. Ran (means graph.now) budget (position (reported self.old) outer.old inner.old) (position (reported self.new) outer.new inner.new)) }
-        ensures onward { Onward (means graph.now) (position (reported self.old) outer.old inner.old) (position (reported self.new) outer.new inner.new) }
+        ensures steps { Turned (run_refusal (reported self.old) (length outer.old) (length inner.old) (length work.old)) result ((self.new ≡ self.old) × (outer.new ≡ outer.old) × (inner.new ≡ inner.old) × (work.new ≡ work.old)) (λ _. Ran (G.means graph.now) budget (position (reported self.old) outer.old inner.old) (position (reported self.new) outer.new inner.new)) }
+        ensures onward { Onward (G.means graph.now) (position (reported self.old) outer.old inner.old) (position (reported self.new) outer.new inner.new) }
     {
         if outer.len() != self.places || inner.len() != self.places || work.len() != self.places {
             return Err(Refusal::Places);
@@ -121,7 +121,7 @@ impl Inquiry {
         new_work: &[G::State],
     ) -> Result<(), Refusal>
         ensures steps { Turned (widen_refusal (reported self.old) (length outer.now) (length inner.now) (length new_outer.old) (length new_inner.old) (length new_work.now)) result ((self.new ≡ self.old) × (new_outer.new ≡ new_outer.old) × (new_inner.new ≡ new_inner.old)) (λ _. position (reported self.new) new_outer.new new_inner.new ≡ widened (length new_outer.old) (position (reported self.old) outer.now inner.now)) }
-        ensures onward { MatchResult result (λ _. (g : G) → Onward (means g) (position (reported self.old) outer.now inner.now) (position (reported self.new) new_outer.new new_inner.new)) (λ _. (g : G) → Onward (means g) (position (reported self.old) outer.now inner.now) (position (reported self.new) outer.now inner.now)) }
+        ensures onward { MatchResult result (λ _. (g : G) → Onward (G.means g) (position (reported self.old) outer.now inner.now) (position (reported self.new) new_outer.new new_inner.new)) (λ _. (g : G) → Onward (G.means g) (position (reported self.old) outer.now inner.now) (position (reported self.new) outer.now inner.now)) }
     {
         if outer.len() != self.places || inner.len() != self.places {
             return Err(Refusal::Places);
@@ -148,7 +148,7 @@ impl Inquiry {
     // What the record says; it keeps the promise wherever a course leads to it.
     pub fn report<G: Graph>(&self) -> Report
         ensures is { result ≡ reported self.now }
-        ensures onward { (g : G) (outer inner : List G.State) → Course (means g) (position result outer inner) → Promise (means g) (position result outer inner) }
+        ensures onward { (g : G) (outer inner : List G.State) → Course (G.means g) (position result outer inner) → Promise (G.means g) (position result outer inner) }
     {
         Report {
             standing: self.standing,

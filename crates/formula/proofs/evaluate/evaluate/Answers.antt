@@ -20,12 +20,12 @@ means ts set r e = subst (Values ts set) (sym e) (evaluated_values ts set)
 
 pub loop-token-preserved : goal.loop-token-preserved
 loop-token-preserved c =
-    sym (reads _ _ _ _ c.loop-token-test.true ∙ ap (then_run _) c.in-ok-stack.ensures) ∙ c.loop-token.invariant
+    sym (reads _ _ _ _ c.loop-token-test.true ∙ ap (then_run _) c.in_ok-stack.ensures) ∙ c.loop-token.invariant
 
-pub returns-in-err-stack : goal.returns-in-err-stack
-returns-in-err-stack c =
-    let none = sym c.loop-token.invariant ∙ reads _ _ _ _ c.loop-token-test.true ∙ ap (then_run _) c.in-err-stack.ensures in
-    let value = c.from-residual.ensures ∙ sym (ap only none) in
+pub returns-in_err-stack : goal.returns-in_err-stack
+returns-in_err-stack c =
+    let none = sym c.loop-token.invariant ∙ reads _ _ _ _ c.loop-token-test.true ∙ ap (then_run _) c.in_err-stack.ensures in
+    let value = c.from_residual.ensures ∙ sym (ap only none) in
     record { value = value; means = means _ _ _ value }
 
 pub returns : goal.returns

@@ -3,8 +3,8 @@ use Rattle.std.proofs.Common.{arith}
 use Rattle.formula.proofs.Unions.{length_spelling, members_few}
 use Rattle.formula.proofs.union.spelling_length.Goals as goal
 
-pub overflow-mul-count : goal.overflow-mul-count
-overflow-mul-count c = omega (arith, members_few c.args.locations c.args.set)
+pub overflow_mul-count : goal.overflow_mul-count
+overflow_mul-count c = omega (arith, members_few c.args.locations c.args.set)
 
 pub returns : goal.returns
 returns c = omega (arith, length_spelling c.args.locations c.args.set)

@@ -7,21 +7,21 @@ use Rattle.inspect.proofs.entry.check_entries.Goals as goal
 pub scan-requires : goal.scan-requires
 scan-requires c = record {
   few = c.loop-k.invariant.0;
-  long = ap length c.block-at.ensures ∙ length_block c.args.sheet.now c.loop-k.k c.requires.0 c.loop-k-test.true;
+  long = ap length c.block_at.ensures ∙ length_block c.args.sheet.now c.loop-k.k c.requires.0 c.loop-k-test.true;
 }
 
-pub returns-in-err-progress : goal.returns-in-err-progress
-returns-in-err-progress c =
-    let p = err_from_is_err_and c.from-residual.result c.from-residual.ensures.1 in
+pub returns-in_err-progress : goal.returns-in_err-progress
+returns-in_err-progress c =
+    let p = err_from_is_err_and c.from_residual.result c.from_residual.ensures.1 in
     rw (p.1, p.2)
     (c.loop-k.invariant.1
-    ∙ entries_pass c.args.sheet.now _ c.loop-k.k _ c.loop-k-test.true c.block-at.ensures (entry_checks c.args.head.now c.loop-k.progress.least c.loop-k.progress.total) (λ _. Some _) c.in-err-progress.ensures.passes)
+    ∙ entries_pass c.args.sheet.now _ c.loop-k.k _ c.loop-k-test.true c.block_at.ensures (entry_checks c.args.head.now c.loop-k.progress.least c.loop-k.progress.total) (λ _. Some _) c.in_err-progress.ensures.passes)
 
 pub loop-k-preserved : goal.loop-k-preserved
 loop-k-preserved c =
-    let told = c.in-ok-progress.ensures in
-    let next = c.in-ok-progress.progress in (
+    let told = c.in_ok-progress.ensures in
+    let next = c.in_ok-progress.progress in (
       told.few,
       c.loop-k.invariant.1
-          ∙ entries_pass c.args.sheet.now _ c.loop-k.k _ c.loop-k-test.true c.block-at.ensures (entry_checks c.args.head.now c.loop-k.progress.least c.loop-k.progress.total) (λ es. first (entry_checks c.args.head.now next.least next.total es)) told.passes,
+          ∙ entries_pass c.args.sheet.now _ c.loop-k.k _ c.loop-k-test.true c.block_at.ensures (entry_checks c.args.head.now c.loop-k.progress.least c.loop-k.progress.total) (λ es. first (entry_checks c.args.head.now next.least next.total es)) told.passes,
     )

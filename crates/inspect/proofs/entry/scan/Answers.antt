@@ -9,33 +9,33 @@ use Rattle.inspect.proofs.entry.scan.Goals.{At-loop-location, In-Entry}
 
 -- the entry that was found
 found : (c : In-Entry) → (begins (from c.args.block.now c.loop-location.at) ≡ an_entry c.in-Entry.location c.in-Entry.letter c.in-Entry.tokens.now) × (length c.in-Entry.tokens.now ≤ 255)
-found c = found_entry (from c.args.block.now c.loop-location.at) (place c.args.k c.loop-location.at) _ c.in-ok-location.ensures _ _ _ c.in-Entry.is
+found c = found_entry (from c.args.block.now c.loop-location.at) (place c.args.k c.loop-location.at) _ c.in_ok-location.ensures _ _ _ c.in-Entry.is
 
 -- what is asked of the entries from here on
 asks : (c : At-loop-location) → List Placed → List Check
 asks c = entry_checks c.args.head.now c.loop-location.progress.least c.loop-location.progress.total
 
-pub returns-in-err-location : goal.returns-in-err-location
+pub returns-in_err-location : goal.returns-in_err-location
 unfolding asks
-returns-in-err-location c =
-    let p = err_from_is_err_and c.from-residual.result c.from-residual.ensures.1 in
-    let out = c.in-err-location.ensures in
-    let here = (goal.at.returns-in-err-location c).At-loop-location in
+returns-in_err-location c =
+    let p = err_from_is_err_and c.from_residual.result c.from_residual.ensures.1 in
+    let out = c.in_err-location.ensures in
+    let here = (goal.at.returns-in_err-location c).At-loop-location in
     rw (p.1, p.2, out.1)
     (record {
       passes = λ fs. c.loop-location.invariant.2 fs ∙ passed_past (asks here) (λ _. Some _) c.args.k c.loop-location.at c.args.block.now out.0.0 out.0.1 (λ _. refl) fs;
       few = tt;
     })
 
-pub returns-in-err-progress : goal.returns-in-err-progress
+pub returns-in_err-progress-in-Entry : goal.returns-in_err-progress-in-Entry
 unfolding asks
-returns-in-err-progress c =
-    let p = err_from_is_err_and c.from-residual-in-err-progress.result c.from-residual-in-err-progress.ensures.1 in
-    let here = (goal.at.returns-in-err-progress c).At-loop-location in
-    let is = found (goal.at.returns-in-err-progress c).In-Entry in
+returns-in_err-progress-in-Entry c =
+    let p = err_from_is_err_and c.from_residual-in_err-progress-in-Entry.result c.from_residual-in_err-progress-in-Entry.ensures.1 in
+    let here = (goal.at.returns-in_err-progress-in-Entry c).At-loop-location in
+    let is = found (goal.at.returns-in_err-progress-in-Entry c).In-Entry in
     rw (p.1, p.2)
     (record {
-      passes = λ fs. c.loop-location.invariant.2 fs ∙ passed_next (asks here) (λ _. Some _) c.args.k c.loop-location.at c.args.block.now _ _ _ is.0 c.in-err-progress.ensures.passes fs;
+      passes = λ fs. c.loop-location.invariant.2 fs ∙ passed_next (asks here) (λ _. Some _) c.args.k c.loop-location.at c.args.block.now _ _ _ is.0 c.in_err-progress-in-Entry.ensures.passes fs;
       few = tt;
     })
 
@@ -49,10 +49,10 @@ unfolding asks
 loop-location-preserved c =
     let is = found (goal.at.loop-location-preserved c).In-Entry in
     let here = (goal.at.loop-location-preserved c).At-loop-location in
-    let told = c.in-ok-progress.ensures in (
+    let told = c.in_ok-progress-in-Entry.ensures in (
       from_start c.args.block.now _ _ _ c.loop-location.at c.loop-location.invariant.0 is.0,
       told.few,
-      λ fs. c.loop-location.invariant.2 fs ∙ passed_next (asks here) (λ es. first (entry_checks c.args.head.now c.in-ok-progress.progress.least c.in-ok-progress.progress.total es)) c.args.k c.loop-location.at c.args.block.now _ _ _ is.0 told.passes fs,
+      λ fs. c.loop-location.invariant.2 fs ∙ passed_next (asks here) (λ es. first (entry_checks c.args.head.now c.in_ok-progress-in-Entry.progress.least c.in_ok-progress-in-Entry.progress.total es)) c.args.k c.loop-location.at c.args.block.now _ _ _ is.0 told.passes fs,
     )
 
 pub returns-in-Head : goal.returns-in-Head
@@ -60,6 +60,6 @@ unfolding asks
 returns-in-Head c =
     let here = (goal.at.returns-in-Head c).At-loop-location in
     record {
-      passes = λ fs. c.loop-location.invariant.2 fs ∙ passed_end (asks here) c.args.k c.loop-location.at c.args.block.now (found_end (from c.args.block.now c.loop-location.at) (place c.args.k c.loop-location.at) _ c.in-ok-location.ensures c.in-Head.is) fs;
+      passes = λ fs. c.loop-location.invariant.2 fs ∙ passed_end (asks here) c.args.k c.loop-location.at c.args.block.now (found_end (from c.args.block.now c.loop-location.at) (place c.args.k c.loop-location.at) _ c.in_ok-location.ensures c.in-Head.is) fs;
       few = c.loop-location.invariant.1;
     }

@@ -3,17 +3,17 @@ use Rattle.std.proofs.lemmas.Bool.{cond-true, cond-false, eq-eqb, ne_eqb}
 use Rattle.inspect.proofs.Tokens.{token_unknown, token_crowded, token_next, token_last, next_few}
 use Rattle.inspect.proofs.formula.check_formula.Goals as goal
 
-pub returns-in-default : goal.returns-in-default
-returns-in-default c =
-    c.loop-i.invariant.1 ∙ token_unknown c.args.head.now _ _ _ _ c.args.tokens.now c.loop-i.i c.loop-i-test.true (sym c.in-default.ensures)
+pub returns-in_default : goal.returns-in_default
+returns-in_default c =
+    c.loop-i.invariant.1 ∙ token_unknown c.args.head.now _ _ _ _ c.args.tokens.now c.loop-i.i c.loop-i-test.true (sym c.in_default.ensures)
 
-pub returns-in-default-waits-after : goal.returns-in-default-waits-after
-returns-in-default-waits-after c =
-    c.loop-i.invariant.1 ∙ token_crowded c.args.head.now _ _ _ _ c.args.tokens.now c.loop-i.i c.in-Some.token c.loop-i-test.true (sym c.in-Some.ensures) (sym c.in-default-waits-after.ensures)
+pub returns-in_default-waits_after : goal.returns-in_default-waits_after
+returns-in_default-waits_after c =
+    c.loop-i.invariant.1 ∙ token_crowded c.args.head.now _ _ _ _ c.args.tokens.now c.loop-i.i c.in-Some.token c.loop-i-test.true (sym c.in-Some.ensures) (sym c.in_default-waits_after.ensures)
 
 pub loop-i-preserved : goal.loop-i-preserved
 loop-i-preserved c =
-    let next = sym c.in-Some-waits-after.ensures in (
+    let next = sym c.in-Some-waits_after.ensures in (
       next_few c.in-Some.token c.loop-i.waiting _ c.loop-i.invariant.0 next,
       c.loop-i.invariant.1 ∙ token_next c.args.head.now _ _ _ _ c.args.tokens.now c.loop-i.i c.in-Some.token _ c.loop-i-test.true (sym c.in-Some.ensures) next,
     )

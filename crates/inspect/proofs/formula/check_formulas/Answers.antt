@@ -5,18 +5,18 @@ use Rattle.inspect.proofs.Cuts.{entries_pass, entries_fit}
 use Rattle.inspect.proofs.formula.check_formulas.Goals as goal
 
 pub spell-requires : goal.spell-requires
-spell-requires c = (entries_fit c.args.sheet.now _ c.loop-k.k _ c.loop-k-test.true c.block-at.ensures c.loop-k.invariant.0).0
+spell-requires c = (entries_fit c.args.sheet.now _ c.loop-k.k _ c.loop-k-test.true c.block_at.ensures c.loop-k.invariant.0).0
 
-pub returns-in-err-spell : goal.returns-in-err-spell
-returns-in-err-spell c =
-    let p = err_from_is_err_and c.from-residual.result c.from-residual.ensures.1 in
+pub returns-in_err-spell : goal.returns-in_err-spell
+returns-in_err-spell c =
+    let p = err_from_is_err_and c.from_residual.result c.from_residual.ensures.1 in
     rw (p.1, p.2)
     (c.loop-k.invariant.1
-    ∙ entries_pass c.args.sheet.now _ c.loop-k.k _ c.loop-k-test.true c.block-at.ensures (token_checks c.args.head.now) (λ _. Some _) c.in-err-spell.ensures)
+    ∙ entries_pass c.args.sheet.now _ c.loop-k.k _ c.loop-k-test.true c.block_at.ensures (token_checks c.args.head.now) (λ _. Some _) c.in_err-spell.ensures)
 
 pub loop-k-preserved : goal.loop-k-preserved
 loop-k-preserved c = (
-  (entries_fit c.args.sheet.now _ c.loop-k.k _ c.loop-k-test.true c.block-at.ensures c.loop-k.invariant.0).1,
+  (entries_fit c.args.sheet.now _ c.loop-k.k _ c.loop-k-test.true c.block_at.ensures c.loop-k.invariant.0).1,
   c.loop-k.invariant.1
-      ∙ entries_pass c.args.sheet.now _ c.loop-k.k _ c.loop-k-test.true c.block-at.ensures (token_checks c.args.head.now) (λ es. first (token_checks c.args.head.now es)) c.in-ok-spell.ensures,
+      ∙ entries_pass c.args.sheet.now _ c.loop-k.k _ c.loop-k-test.true c.block_at.ensures (token_checks c.args.head.now) (λ es. first (token_checks c.args.head.now es)) c.in_ok-spell.ensures,
 )

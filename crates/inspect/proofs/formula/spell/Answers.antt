@@ -10,24 +10,24 @@ use Rattle.inspect.proofs.formula.spell.Goals.{In-Entry}
 
 -- the entry that was found
 found : (c : In-Entry) → (begins (from c.args.block.now c.loop-tokens.at) ≡ an_entry c.in-Entry.location c.in-Entry.letter c.in-Entry.tokens.now) × (length c.in-Entry.tokens.now ≤ 255)
-found c = found_entry (from c.args.block.now c.loop-tokens.at) (place c.args.k c.loop-tokens.at) _ c.in-ok-tokens.ensures _ _ _ c.in-Entry.is
+found c = found_entry (from c.args.block.now c.loop-tokens.at) (place c.args.k c.loop-tokens.at) _ c.in_ok-tokens.ensures _ _ _ c.in-Entry.is
 
-pub returns-in-err-tokens : goal.returns-in-err-tokens
-returns-in-err-tokens c =
-    let out = c.in-err-tokens.ensures in
+pub returns-in_err-tokens : goal.returns-in_err-tokens
+returns-in_err-tokens c =
+    let out = c.in_err-tokens.ensures in
     absurd (fits_not_past c.args.k c.loop-tokens.at c.args.block.now out.0.0 out.0.1 c.loop-tokens.invariant.1)
 
-pub check-formula-requires : goal.check-formula-requires
-check-formula-requires c =
-    from_start c.args.block.now _ _ _ c.loop-tokens.at c.loop-tokens.invariant.0 (found (goal.at.check-formula-requires c).In-Entry).0
+pub check_formula-requires : goal.check_formula-requires
+check_formula-requires c =
+    from_start c.args.block.now _ _ _ c.loop-tokens.at c.loop-tokens.invariant.0 (found (goal.at.check_formula-requires c).In-Entry).0
 
-pub returns-in-err-check-formula : goal.returns-in-err-check-formula
-returns-in-err-check-formula c =
-    let p = err_from_is_err_and c.from-residual-in-err-check-formula.result c.from-residual-in-err-check-formula.ensures.1 in
-    let is = found (goal.at.returns-in-err-check-formula c).In-Entry in
+pub returns-in_err-check_formula-in-Entry : goal.returns-in_err-check_formula-in-Entry
+returns-in_err-check_formula-in-Entry c =
+    let p = err_from_is_err_and c.from_residual-in_err-check_formula-in-Entry.result c.from_residual-in_err-check_formula-in-Entry.ensures.1 in
+    let is = found (goal.at.returns-in_err-check_formula-in-Entry c).In-Entry in
     rw (p.1, p.2)
     (λ fs. c.loop-tokens.invariant.2 fs
-    ∙ passed_next (token_checks c.args.head.now) (λ _. Some _) c.args.k c.loop-tokens.at c.args.block.now _ _ _ is.0 (λ es. formula_fails c.args.head.now c.args.k c.loop-tokens.at c.in-Entry.location c.in-Entry.letter c.in-Entry.tokens.now es _ c.in-err-check-formula.ensures) fs)
+    ∙ passed_next (token_checks c.args.head.now) (λ _. Some _) c.args.k c.loop-tokens.at c.args.block.now _ _ _ is.0 (λ es. formula_fails c.args.head.now c.args.k c.loop-tokens.at c.in-Entry.location c.in-Entry.letter c.in-Entry.tokens.now es _ c.in_err-check_formula-in-Entry.ensures) fs)
 
 pub loop-tokens-smaller : goal.loop-tokens-smaller
 loop-tokens-smaller c =
@@ -40,10 +40,10 @@ loop-tokens-preserved c =
       from_start c.args.block.now _ _ _ c.loop-tokens.at c.loop-tokens.invariant.0 is.0,
       fits_next c.args.k c.loop-tokens.at c.args.block.now _ _ _ is.0 c.loop-tokens.invariant.1,
       λ fs. c.loop-tokens.invariant.2 fs
-          ∙ passed_next asks (λ es. first (asks es)) c.args.k c.loop-tokens.at c.args.block.now _ _ _ is.0 (λ es. formula_passes c.args.head.now c.args.k c.loop-tokens.at c.in-Entry.location c.in-Entry.letter c.in-Entry.tokens.now es c.in-ok-check-formula.ensures.0) fs,
+          ∙ passed_next asks (λ es. first (asks es)) c.args.k c.loop-tokens.at c.args.block.now _ _ _ is.0 (λ es. formula_passes c.args.head.now c.args.k c.loop-tokens.at c.in-Entry.location c.in-Entry.letter c.in-Entry.tokens.now es c.in_ok-check_formula-in-Entry.ensures.0) fs,
     )
 
 pub returns-in-Head : goal.returns-in-Head
 returns-in-Head c fs =
     c.loop-tokens.invariant.2 fs
-    ∙ passed_end (token_checks c.args.head.now) c.args.k c.loop-tokens.at c.args.block.now (found_end (from c.args.block.now c.loop-tokens.at) (place c.args.k c.loop-tokens.at) _ c.in-ok-tokens.ensures c.in-Head.is) fs
+    ∙ passed_end (token_checks c.args.head.now) c.args.k c.loop-tokens.at c.args.block.now (found_end (from c.args.block.now c.loop-tokens.at) (place c.args.k c.loop-tokens.at) _ c.in_ok-tokens.ensures c.in-Head.is) fs

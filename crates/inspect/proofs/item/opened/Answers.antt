@@ -5,9 +5,9 @@ use Rattle.inspect.specs.Entries.{begins, an_entry}
 use Rattle.inspect.proofs.Begins.{too_short, too_long, whole}
 use Rattle.inspect.proofs.item.opened.Goals as goal
 
-pub returns-in-default : goal.returns-in-default
-returns-in-default c =
-    (too_short c.args.rest.now (omega (arith, eqb-false _ 0 (sym c.if-is-empty.ensures))) c.if-rest.false (omega (arith, ltb-true)), refl)
+pub returns-in_default : goal.returns-in_default
+returns-in_default c =
+    (too_short c.args.rest.now (omega (arith, eqb-false _ 0 (sym c.if-is_empty.ensures))) c.if-rest.false (omega (arith, ltb-true)), refl)
 
 pub returns-then-length-tokens : goal.returns-then-length-tokens
 returns-then-length-tokens c =
@@ -25,4 +25,4 @@ cut xs n ff three is fits small =
     (whole xs ff three inside ∙ ap (λ m. an_entry (get_or xs 0 0) (get_or xs 1 0) (take m (drop 3 xs))) (sym same), omega (arith, length-take (n - 0) (drop 3 xs))))
 
 pub returns : goal.returns
-returns c = cut c.args.rest.now c.from-length.result c.if-rest.false (omega (arith, ltb-false)) c.from-length.ensures c.if-length-tokens.false (omega (arith, c.from-length.ensures, c.type-inv.rest 2))
+returns c = cut c.args.rest.now c.from-length.result c.if-rest.false (omega (arith, ltb-false)) c.from-length.ensures c.if-length-tokens.false (omega (arith, c.from-length.ensures, c.type_inv.rest 2))

@@ -13,7 +13,7 @@ returns-then-cursor-lt-BODY c =
     let left = 507 - c.args.cursor.used in
     let closes : closing c.args.cursor.used ≡ 0xff ∷ zeros left = cond-true _ _ _ (lt-ltb c.args.cursor.used 508 (omega arith)) in
     let first = ap (λ p. pasted c.args.out.now p (0xff ∷ [])) c.at-at.ensures in
-    c.put-zeros.ensures ∙ ap₂ (λ ys p. pasted ys p (zeros left)) (c.put.ensures ∙ first) (ap (λ p. p + 1) c.at-at.ensures)
+    c.put_zeros.ensures ∙ ap₂ (λ ys p. pasted ys p (zeros left)) (c.put.ensures ∙ first) (ap (λ p. p + 1) c.at-at.ensures)
     ∙ pasted_pasted c.args.out.now (0xff ∷ []) at (omega arith) (zeros left) (at + 1) refl ∙ ap (pasted c.args.out.now at) (sym closes)
 
 pub returns-else-cursor-lt-BODY : goal.returns-else-cursor-lt-BODY

@@ -9,4 +9,4 @@ pub returns : goal.returns
 unfolding ended
 returns c =
     let k = c.args.cursor.block in
-    c.put-check.ensures ∙ ap (λ ys. pasted ys (k * 512 + 510) (check_bytes (check_of (block ys k)))) c.put-closing.ensures
+    c.put_check.ensures ∙ ap (λ ys. pasted ys (k * 512 + 510) (check_bytes (check_of (block ys k)))) c.put_closing.ensures

@@ -12,5 +12,5 @@ returns c =
     let a = h.accepting in
     let fields : ℕ → ℕ → List ℕ = λ kind sort. kind ∷ 0 ∷ sort ∷ h.locations ∷ h.letters ∷ h.initial ∷ (a % 256) ∷ (a / 256 % 256) ∷ (a / 65536 % 256) ∷ (a / 16777216) ∷ [] in
     let first : c.put.new.out ≡ pasted c.args.out.now 0 (fields 1 (sort_code h.sort)) = cc in
-    c.put-zeros.ensures ∙ ap (λ ys. pasted ys 10 (zeros 500)) first
+    c.put_zeros.ensures ∙ ap (λ ys. pasted ys 10 (zeros 500)) first
     ∙ pasted_pasted c.args.out.now (fields 1 (sort_code h.sort)) 0 (omega arith) (zeros 500) 10 refl

@@ -7,8 +7,8 @@ use Rattle.layout.proofs.Cells.{tally, tally_step, tally_all, entries_skip, entr
 use Rattle.layout.proofs.write.count_blocks.Goals as goal
 use Rattle.layout.proofs.write.count_blocks.Goals.{then-tokens-gt0, else-tokens-gt0}
 
-pub overflow-add-tokens : goal.overflow-add-tokens
-overflow-add-tokens g c =
+pub overflow_add-tokens : goal.overflow_add-tokens
+overflow_add-tokens g c =
     let x = c.args.source.now in omega (arith, cell_short (g.S.Source.content x) (g.met.S.Source.valid x) c.loop-cell.cell, c.length-tokens.ensures)
 
 pub after-cursor-requires : goal.after-cursor-requires

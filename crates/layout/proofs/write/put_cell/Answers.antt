@@ -14,36 +14,36 @@ use Rattle.layout.proofs.write.put_cell.Goals.{Else-tokens-eq0}
 pub returns-then-tokens-eq0 : goal.returns-then-tokens-eq0
 returns-then-tokens-eq0 g c =
     let s = g.S.Source.content c.args.source.now in
-    let none = entries_skip s c.args.cell c.requires.0 (sym c.length-tokens.ensures ∙ c.if-tokens-eq0.true) in
-    record { stands = subst (Stands s c.args.out.now c.args.cursor) none c.requires.1; behind = refl }
+    let none = entries_skip s c.args.cell c.requires.inside (sym c.length-tokens.ensures ∙ c.if-tokens-eq0.true) in
+    record { stands = subst (Stands s c.args.out.now c.args.cursor) none c.requires.begun; behind = refl }
 
-pub overflow-add-entry : goal.overflow-add-entry
-overflow-add-entry g c =
+pub overflow_add-entry : goal.overflow_add-entry
+overflow_add-entry g c =
     let x = c.args.source.now in omega (arith, cell_short (g.S.Source.content x) (g.met.S.Source.valid x) c.args.cell, c.length-tokens.ensures)
 
 laid : (g : given.Over) (c : Else-tokens-eq0 g) → Laid (g.S.Source.content c.args.source.now) c.args.out.now c.args.cursor c.args.cell (3 + c.length-tokens.result)
-laid g c = cell_laid _ _ _ _ _ c.requires.0 c.length-tokens.ensures c.if-tokens-eq0.false c.requires.1
+laid g c = cell_laid _ _ _ _ _ c.requires.inside c.length-tokens.ensures c.if-tokens-eq0.false c.requires.begun
 
-pub make-room-room-requires : goal.make-room-room-requires
-make-room-room-requires g c =
-    let l = laid g (goal.at.make-room-room-requires g c).Else-tokens-eq0 in (l.within, (l.short, (omega (arith, l.few), l.fit)))
+pub make_room-room-requires : goal.make_room-room-requires
+make_room-room-requires g c =
+    let l = laid g (goal.at.make_room-room-requires g c).Else-tokens-eq0 in (l.within, (l.short, (omega (arith, l.few), l.fit)))
 
 pub at-requires : goal.at-requires
 at-requires g c =
     let l = laid g (goal.at.at-requires g c).Else-tokens-eq0 in
-    let room = c.make-room-room.ensures.cursor in
+    let room = c.make_room-room.ensures.cursor in
     (omega (arith, l.few, ap (λ d. d.block) room), omega (arith, l.room, ap (λ d. d.used) room))
 
-pub put-entry-requires : goal.put-entry-requires
-put-entry-requires g c =
-    let l = laid g (goal.at.put-entry-requires g c).Else-tokens-eq0 in
-    let at = c.at.ensures ∙ ap position c.make-room-room.ensures.cursor in
-    (c.requires.0, omega (arith, l.entry, at, ap length c.make-room-room.ensures.bytes))
+pub put_entry-requires : goal.put_entry-requires
+put_entry-requires g c =
+    let l = laid g (goal.at.put_entry-requires g c).Else-tokens-eq0 in
+    let at = c.at.ensures ∙ ap position c.make_room-room.ensures.cursor in
+    record { inside = c.requires.inside; room = omega (arith, l.entry, at, ap length c.make_room-room.ensures.bytes) }
 
 pub after-requires : goal.after-requires
 after-requires g c =
     let l = laid g (goal.at.after-requires g c).Else-tokens-eq0 in
-    let room = c.make-room-room.ensures.cursor in
+    let room = c.make_room-room.ensures.cursor in
     (omega (arith, l.room, ap (λ d. d.used) room), (l.short, omega (arith, l.few, ap (λ d. d.block) room)))
 
 pub returns : goal.returns
@@ -51,11 +51,11 @@ returns g c =
     let l = laid g (goal.at.returns g c).Else-tokens-eq0 in
     let s = g.S.Source.content c.args.source.now in
     let n = 3 + c.length-tokens.result in
-    let room = c.make-room-room.ensures.cursor in
+    let room = c.make_room-room.ensures.cursor in
     let moved : c.after.result ≡ advanced (roomy c.args.cursor n) n = c.after.ensures ∙ ap (λ f. advanced f n) room in
     let bytes = entry_bytes (entry_at s c.args.cell) in
-    let out : c.put-entry.new.out ≡ pasted (room_made c.args.out.now c.args.cursor n) (position (roomy c.args.cursor n)) bytes =
-    c.put-entry.ensures ∙ ap₂ (λ ys p. pasted ys p bytes) c.make-room-room.ensures.bytes (c.at.ensures ∙ ap position room) in
+    let out : c.put_entry.new.out ≡ pasted (room_made c.args.out.now c.args.cursor n) (position (roomy c.args.cursor n)) bytes =
+    c.put_entry.ensures ∙ ap₂ (λ ys p. pasted ys p bytes) c.make_room-room.ensures.bytes (c.at.ensures ∙ ap position room) in
     record {
       stands = stands_same s (entries_at s (c.args.cell + 1)) out moved l.stands;
       behind = ap (drop (length (written s))) out ∙ l.behind;

@@ -11,12 +11,12 @@ use Rattle.layout.proofs.write.put_sheet.Given as given
 use Rattle.layout.proofs.write.put_sheet.Goals as goal
 use Rattle.layout.proofs.write.put_sheet.Goals.{After-cells-cell-end}
 
-pub put-head-requires : goal.put-head-requires
-put-head-requires g c =
+pub put_head-requires : goal.put_head-requires
+put_head-requires g c =
     let x = c.args.source.now in omega (arith, c.requires, written_length (g.S.Source.content x) (g.met.S.Source.valid x))
 
-laid : (g : given.Over) (c : After-cells-cell-end g) → c.put-head.new.out ≡ pasted c.args.out.now 0 (kind 0 ∷ 0 ∷ head_payload (g.S.Source.content c.args.source.now).head)
-laid g c = c.put-head.ensures ∙ ap (λ h. pasted c.args.out.now 0 (kind 0 ∷ 0 ∷ head_payload h)) c.head-head.ensures
+laid : (g : given.Over) (c : After-cells-cell-end g) → c.put_head.new.out ≡ pasted c.args.out.now 0 (kind 0 ∷ 0 ∷ head_payload (g.S.Source.content c.args.source.now).head)
+laid g c = c.put_head.ensures ∙ ap (λ h. pasted c.args.out.now 0 (kind 0 ∷ 0 ∷ head_payload h)) c.head-head.ensures
 
 pub loop-cell-init : goal.loop-cell-init
 loop-cell-init g c =
@@ -24,8 +24,8 @@ loop-cell-init g c =
     let s = g.S.Source.content x in
     (stands_same s (entries_at s 0) (laid g c) refl (stands_start s (g.met.S.Source.valid x) c.args.out.now c.requires), refl)
 
-pub put-end-requires : goal.put-end-requires
-put-end-requires g c =
+pub put_end-requires : goal.put_end-requires
+put_end-requires g c =
     let s = g.S.Source.content c.args.source.now in
     let stands = c.loop-cell.invariant.0 in
     let few = stands_few s _ _ _ stands in
@@ -40,5 +40,5 @@ returns g c =
     let ends = ap (λ h. h.locations * h.letters) c.head-head.ensures in
     let past = entries_end s c.loop-cell.cell (omega (arith, valid.long, c.cells-cell-end.ensures, c.loop-cell-test.false)) in
     let behind = c.loop-cell.invariant.1 ∙ ap (drop (length (written s))) (laid g (goal.at.returns g c).After-cells-cell-end) ∙ start_behind s valid c.args.out.now c.requires in
-    c.put-end.ensures ∙ stands_end s _ _ (subst (Stands s c.loop-cell.out c.loop-cell.cursor) past c.loop-cell.invariant.0)
+    c.put_end.ensures ∙ stands_end s _ _ (subst (Stands s c.loop-cell.out c.loop-cell.cursor) past c.loop-cell.invariant.0)
     ∙ ap (λ ys. written s ++ ys) behind

@@ -13,9 +13,9 @@ reads_back_lem c valid = record {
   few = omega (arith, written_length c valid, written_few c valid);
 }
 
-pub overflow-mul-length : goal.overflow-mul-length
-overflow-mul-length g c =
-    let x = c.args.source.now in omega (arith, c.count-blocks-length.ensures, written_few (g.S.Source.content x) (g.met.S.Source.valid x))
+pub overflow_mul-length : goal.overflow_mul-length
+overflow_mul-length g c =
+    let x = c.args.source.now in omega (arith, c.count_blocks-length.ensures, written_few (g.S.Source.content x) (g.met.S.Source.valid x))
 
 pub returns-then-out-length : goal.returns-then-out-length
 returns-then-out-length g c =
@@ -23,21 +23,21 @@ returns-then-out-length g c =
     let s = g.S.Source.content x in
     let valid = g.met.S.Source.valid x in
     record {
-      writes = (refl, omega (arith, c.count-blocks-length.ensures, written_length s valid, c.if-out-length.true), refl);
-      reads_back_lem = reads_back_lem s valid;
+      writes = (refl, omega (arith, c.count_blocks-length.ensures, written_length s valid, c.if-out-length.true), refl);
+      reads_back = reads_back_lem s valid;
     }
 
-pub put-sheet-requires : goal.put-sheet-requires
-put-sheet-requires g c =
-    let x = c.args.source.now in omega (arith, c.count-blocks-length.ensures, written_length (g.S.Source.content x) (g.met.S.Source.valid x), c.if-out-length.false)
+pub put_sheet-requires : goal.put_sheet-requires
+put_sheet-requires g c =
+    let x = c.args.source.now in omega (arith, c.count_blocks-length.ensures, written_length (g.S.Source.content x) (g.met.S.Source.valid x), c.if-out-length.false)
 
 pub returns : goal.returns
 returns g c =
     let x = c.args.source.now in
     let s = g.S.Source.content x in
     let valid = g.met.S.Source.valid x in
-    let long = ap (λ n. n * 512) c.count-blocks-length.ensures ∙ sym (written_length s valid) in
+    let long = ap (λ n. n * 512) c.count_blocks-length.ensures ∙ sym (written_length s valid) in
     record {
-      writes = (long, c.if-out-length.false, c.put-sheet.ensures ∙ ap (λ n. written s ++ drop n c.args.out.now) (sym long));
-      reads_back_lem = reads_back_lem s valid;
+      writes = (long, c.if-out-length.false, c.put_sheet.ensures ∙ ap (λ n. written s ++ drop n c.args.out.now) (sym long));
+      reads_back = reads_back_lem s valid;
     }

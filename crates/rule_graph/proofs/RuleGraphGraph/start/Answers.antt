@@ -4,8 +4,8 @@ use Rattle.rule_graph.specs.RuleGraph.{pair}
 use Rattle.rule_graph.specs.Words.{valid}
 use Rattle.rule_graph.proofs.RuleGraphGraph.start.Goals as goal
 
-pub overflow-shl-result : goal.overflow-shl-result
-overflow-shl-result c = let f = (valid c.args.self.now.rule).fields in omega (arith, c.initial.ensures, f.initial, f.locations)
+pub overflow_shl-result : goal.overflow_shl-result
+overflow_shl-result c = let f = (valid c.args.self.now.rule).fields in omega (arith, c.initial.ensures, f.initial, f.locations)
 
 pub returns : goal.returns
 returns c =

@@ -4,11 +4,11 @@ use Rattle.rule_graph.specs.RuleGraph.{those}
 use Rattle.rule_graph.specs.Words.{valid, all_ones}
 use Rattle.rule_graph.proofs.locations.everything.Goals as goal
 
-pub overflow-shl-result : goal.overflow-shl-result
-overflow-shl-result c = let f = (valid c.args.rule.now).fields in omega (arith, c.locations-locations.ensures, f.locations)
+pub overflow_shl-result : goal.overflow_shl-result
+overflow_shl-result c = let f = (valid c.args.rule.now).fields in omega (arith, c.locations-locations.ensures, f.locations)
 
-pub overflow-sub-result : goal.overflow-sub-result
-overflow-sub-result c =
+pub overflow_sub-result : goal.overflow_sub-result
+overflow_sub-result c =
     let f = (valid c.args.rule.now).fields in
     let n = c.locations-locations.result in
     let small : n < 32 = omega (arith, c.locations-locations.ensures, f.locations) in

@@ -11,8 +11,8 @@ pub loop-l-init : goal.loop-l-init
 unfolding those
 loop-l-init c = refl
 
-pub overflow-shl-found : goal.overflow-shl-found
-overflow-shl-found c = let f = (valid c.args.rule.now).fields in omega (arith, c.locations-l-end.ensures, f.locations)
+pub overflow_shl-found : goal.overflow_shl-found
+overflow_shl-found c = let f = (valid c.args.rule.now).fields in omega (arith, c.locations-l-end.ensures, f.locations)
 
 pub loop-l-preserved : goal.loop-l-preserved
 loop-l-preserved c =

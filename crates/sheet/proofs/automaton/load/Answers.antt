@@ -4,13 +4,13 @@ use Rattle.inspect.proofs.Meaning.{denotes_sound}
 use Rattle.sheet.specs.Models.{IsModel}
 use Rattle.sheet.proofs.automaton.load.Goals as goal
 
-pub returns-in-ok-read-rule : goal.returns-in-ok-read-rule
-returns-in-ok-read-rule c =
-    let found = c.in-ok-head.ensures.answers in
-    (found.0, found.1, c.in-ok-read-rule.ensures ∙ sym (denotes_sound asked.Either c.args.sheet.now found.0 found.1).1)
+pub returns-in_ok-read_rule-in-Rule : goal.returns-in_ok-read_rule-in-Rule
+returns-in_ok-read_rule-in-Rule c =
+    let found = c.in_ok-head.ensures.answers in
+    (found.0, found.1, c.in_ok-read_rule-in-Rule.ensures ∙ sym (denotes_sound asked.Either c.args.sheet.now found.0 found.1).1)
 
-pub returns-in-ok-read-model : goal.returns-in-ok-read-model
-returns-in-ok-read-model c =
-    let found = c.in-ok-head.ensures.answers in
+pub returns-in_ok-read_model-in-Model : goal.returns-in_ok-read_model-in-Model
+returns-in_ok-read_model-in-Model c =
+    let found = c.in_ok-head.ensures.answers in
     let is = sym (denotes_sound asked.Either c.args.sheet.now found.0 found.1).1 in
-    (found.0, found.1, subst (IsModel c.in-ok-read-model.field-0) is c.in-ok-read-model.ensures)
+    (found.0, found.1, subst (IsModel c.in_ok-read_model-in-Model.field-0) is c.in_ok-read_model-in-Model.ensures)

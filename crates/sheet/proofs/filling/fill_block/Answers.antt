@@ -18,7 +18,7 @@ loop-entry-preserved c =
     let b = block c.args.sheet.now c.args.k in
     let next = c.loop-entry.at + (3 + length c.in-Some.entry.tokens.now) in
     let cell : c.from.result * c.from-in-Some.result + c.from-in-Some-2.result ≡ c.in-Some.entry.location * c.args.letters + c.in-Some.entry.letter = cc (c.from.ensures, c.from-in-Some.ensures, c.from-in-Some-2.ensures) in
-    let told = c.in-ok-put.ensures ∙ ap (λ n. set (formulas c.loop-entry.table) n (map read c.in-Some.entry.tokens.now)) cell in (
+    let told = c.in_ok-put.ensures ∙ ap (λ n. set (formulas c.loop-entry.table) n (map read c.in-Some.entry.tokens.now)) cell in (
       from_start b _ _ _ c.loop-entry.at c.loop-entry.invariant.0 is.0,
       fits_next c.args.k c.loop-entry.at b _ _ _ is.0 c.loop-entry.invariant.1,
       λ fs. c.loop-entry.invariant.2 fs ∙ ap (λ es. laid c.args.letters (formulas c.loop-entry.table) (map entry_of (es ++ fs))) (entries_next c.args.k c.loop-entry.at b _ _ _ is.0)
@@ -28,5 +28,5 @@ loop-entry-preserved c =
 pub returns : goal.returns
 returns c fs =
     let b = block c.args.sheet.now c.args.k in
-    let none = ⊎_elim (λ e. e) (λ p. absurd (fits_not_past c.args.k c.loop-entry.at b p.0 p.1 c.loop-entry.invariant.1)) (c.in-default.ensures c.requires.some) in
+    let none = ⊎_elim (λ e. e) (λ p. absurd (fits_not_past c.args.k c.loop-entry.at b p.0 p.1 c.loop-entry.invariant.1)) (c.in_default.ensures c.requires.some) in
     c.loop-entry.invariant.2 fs ∙ ap (λ es. laid c.args.letters (formulas c.loop-entry.table) (map entry_of (es ++ fs))) (entries_end c.args.k c.loop-entry.at (from b c.loop-entry.at) none)

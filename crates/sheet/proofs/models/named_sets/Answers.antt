@@ -8,7 +8,7 @@ pub loop-cell-preserved : goal.loop-cell-preserved
 loop-cell-preserved c =
     let cells = formulas c.args.table.now in
     let inside : c.loop-cell.cell < length cells = omega arith in
-    c.in-ok-push.ensures.items ∙ ap (λ ms. ms ++ c.named.result ∷ []) c.loop-cell.invariant
+    c.in_ok-push.ensures.items ∙ ap (λ ms. ms ++ c.named.result ∷ []) c.loop-cell.invariant
     ∙ ap (λ m. map named_mask (take c.loop-cell.cell cells) ++ m ∷ []) (c.named.ensures ∙ ap named_mask c.formula.ensures)
     ∙ sym (map_more named_mask cells c.loop-cell.cell [] inside)
 

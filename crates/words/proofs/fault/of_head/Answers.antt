@@ -16,5 +16,5 @@ returns-in-3 c = sym (ap head_words c.in-3.is)
 pub returns-in-4 : goal.returns-in-4
 returns-in-4 c = sym (ap head_words c.in-4.is)
 
-pub returns-in-default : goal.returns-in-default
-returns-in-default c = sym (any_other c.args.place.byte (λ e. omega arith) (λ e. omega arith) (λ e. omega arith))
+pub returns-in_default : goal.returns-in_default
+returns-in_default c = sym (any_other c.args.place.byte (λ e. omega arith) (λ e. omega arith) (λ e. omega arith))

@@ -13,14 +13,14 @@ pub loop-token-preserved : goal.loop-token-preserved
 loop-token-preserved c =
     let old = waiting (vec_items c.loop-token.parts) in
     let new = waiting (vec_items c.read.new.parts) in
-    one_more c.args.tokens.now c.loop-token.token-index old c.loop-token.invariant new c.loop-token-test.true c.in-ok-read.ensures
+    one_more c.args.tokens.now c.loop-token.token-index old c.loop-token.invariant new c.loop-token-test.true c.in_ok-read.ensures
 
 pub returns-in-Some : goal.returns-in-Some
 returns-in-Some c =
     let tokens = c.args.tokens.now in
     let parts = vec_items c.loop-token.parts in
     let all = no_more tokens c.loop-token.token-index (waiting parts) c.loop-token.invariant c.loop-token-test.false in
-    let value = some_value c.evaluate.result c.if-is-none.ensures in
+    let value = some_value c.evaluate.result c.if-is_none.ensures in
     record {
       spelled = c.evaluate.ensures.means.spelled value.0 value.1;
       right = newest_text tokens parts all (vec_items c.pop.new.self) c.in-Some.part c.in-Some.ensures.items;

@@ -9,5 +9,5 @@ returns c =
     let all = vec_items c.args.parts.now in
     let fewer = vec_items c.pop.new.self in
     let least = vec_items c.pop-2.new.self in
-    let two = two_newest c.args.connective.now all fewer least c.in-Some-pop.left c.in-Some.right c.in-ok-join.field-0 c.in-Some.ensures.items c.in-Some-pop.ensures.items c.in-ok-join.ensures in
+    let two = two_newest c.args.connective.now all fewer least c.in-Some-pop.left c.in-Some.right c.in_ok-join.field-0 c.in-Some.ensures.items c.in-Some-pop.ensures.items c.in_ok-join.ensures in
     IfOk-weaker c.push.result _ _ (λ _ e. e ∙ two) c.push.ensures

@@ -8,5 +8,5 @@ use Rattle.words.proofs.infix.push.Goals as goal
 pub returns : goal.returns
 returns c =
     let old = vec_items c.args.parts.now in
-    ap waiting (pushed {xs = old} (c.args.part ∷ []) refl c.in-ok-push.was c.push.ensures.items)
+    ap waiting (pushed {xs = old} (c.args.part ∷ []) refl c.in_ok-push.was c.push.ensures.items)
     ∙ waiting_push old c.args.part

@@ -20,9 +20,9 @@ returns-then-outer-self g c =
       onward = stays (g.G.Graph.means c.args.graph.now) (g.met.G.Graph.lawful c.args.graph.now) (position (reported c.args.self.now) c.args.outer.now c.args.inner.now);
     }
 
-pub returns-in-default : goal.returns-in-default
-returns-in-default g c = record {
-  steps = turned_down (run_refusal (reported c.args.self.now) (length c.args.outer.now) (length c.args.inner.now) (length c.args.work.now)) Stopped _ _ (run_stopped (reported c.args.self.now) (length c.args.outer.now) (length c.args.inner.now) (length c.args.work.now) c.if-outer-self.false c.if-inner-self.false c.if-work-self.false c.in-default.not-Running) (refl, refl, refl, refl);
+pub returns-in_default : goal.returns-in_default
+returns-in_default g c = record {
+  steps = turned_down (run_refusal (reported c.args.self.now) (length c.args.outer.now) (length c.args.inner.now) (length c.args.work.now)) Stopped _ _ (run_stopped (reported c.args.self.now) (length c.args.outer.now) (length c.args.inner.now) (length c.args.work.now) c.if-outer-self.false c.if-inner-self.false c.if-work-self.false c.in_default.not-Running) (refl, refl, refl, refl);
   onward = stays (g.G.Graph.means c.args.graph.now) (g.met.G.Graph.lawful c.args.graph.now) (position (reported c.args.self.now) c.args.outer.now c.args.inner.now);
 }
 

@@ -5,9 +5,9 @@ use Rattle.inquiry.specs.Record.{reported, position}
 use Rattle.inquiry.proofs.Calls.{steps_more, steps_stop, steps_all}
 use Rattle.inquiry.proofs.record.Inquiry.steps.Goals as goal
 
-pub returns-in-default : goal.returns-in-default
-returns-in-default g c =
-    steps_stop (g.G.Graph.means c.args.graph.now) c.args.budget c.loop-done.done (position (reported c.loop-done.self) c.loop-done.outer c.loop-done.inner) (ran (g.G.Graph.means c.args.graph.now) c.args.budget (position (reported c.args.self.now) c.args.outer.now c.args.inner.now)) c.loop-done.invariant.0 c.in-default.not-Running
+pub returns-in_default : goal.returns-in_default
+returns-in_default g c =
+    steps_stop (g.G.Graph.means c.args.graph.now) c.args.budget c.loop-done.done (position (reported c.loop-done.self) c.loop-done.outer c.loop-done.inner) (ran (g.G.Graph.means c.args.graph.now) c.args.budget (position (reported c.args.self.now) c.args.outer.now c.args.inner.now)) c.loop-done.invariant.0 c.in_default.not-Running
 
 pub loop-done-preserved : goal.loop-done-preserved
 loop-done-preserved g c =

@@ -8,6 +8,6 @@ returns c =
     let self = c.args.self.now in
     record {
       writes = c.write.ensures.writes;
-      reads_back_lem = c.write.ensures.reads-back;
+      reads_back = c.write.ensures.reads_back;
       same = (refl, sym (named_spelled_back (model_content self).head (vec_items self.successors) self.sets));
     }

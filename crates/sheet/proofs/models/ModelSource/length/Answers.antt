@@ -8,7 +8,7 @@ pub returns-then-cell-len : goal.returns-then-cell-len
 returns-then-cell-len c =
     let self = c.args.self.now in
     let sets = vec_items self.successors in
-    c.spelling-length.ensures
+    c.spelling_length.ensures
     ∙ ap (λ m. length (spelling self.locations m)) (get_or_read_under sets c.args.cell _ _ 0 c.index.ensures c.if-cell-len.true (c.len.ensures ∙ self.successors.ok.0))
     ∙ ap length (sym (spelled_at self.locations sets c.args.cell (omega (arith, self.successors.ok.0))))
 

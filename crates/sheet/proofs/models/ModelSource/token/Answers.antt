@@ -9,7 +9,7 @@ pub returns-then-cell-len : goal.returns-then-cell-len
 returns-then-cell-len c =
     let self = c.args.self.now in
     let sets = vec_items self.successors in
-    c.spelling-token.ensures
+    c.spelling_token.ensures
     ∙ ap (λ m. get_or (spelling self.locations m) c.args.i False) (get_or_read_under sets c.args.cell _ _ 0 c.index.ensures c.if-cell-len.true (c.len.ensures ∙ self.successors.ok.0))
     ∙ ap (λ ts. get_or ts c.args.i False) (sym (spelled_at self.locations sets c.args.cell (omega (arith, self.successors.ok.0))))
 

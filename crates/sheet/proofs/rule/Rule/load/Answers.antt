@@ -5,5 +5,5 @@ use Rattle.sheet.proofs.rule.Rule.load.Goals as goal
 
 pub returns : goal.returns
 returns c =
-    let found = c.in-ok-head.ensures.answers in
-    (found.0, found.1, c.in-ok-self.ensures ∙ sym (denotes_sound asked.Rule c.args.sheet.now found.0 found.1).1)
+    let found = c.in_ok-head.ensures.answers in
+    (found.0, found.1, c.in_ok-self.ensures ∙ sym (denotes_sound asked.Rule c.args.sheet.now found.0 found.1).1)

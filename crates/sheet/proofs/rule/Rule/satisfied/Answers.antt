@@ -10,5 +10,5 @@ pub returns : goal.returns
 returns c =
     let self = c.args.self.now in
     let found = satisfies (rule_content self) (test_valid (rule_content self) self.valid) c.args.location c.args.letter c.args.set in
-    let is = c.unwrap-or.ensures ∙ ap (λ o. unwrap_or o false) (c.evaluate.ensures.value ∙ ap (evaluated (has c.args.set)) c.formula.ensures) in
+    let is = c.unwrap_or.ensures ∙ ap (λ o. unwrap_or o false) (c.evaluate.ensures.value ∙ ap (evaluated (has c.args.set)) c.formula.ensures) in
     record { value = is; means = (found.0, found.1, is ∙ found.2) }

@@ -5,12 +5,9 @@ use Rattle.sheet.specs.Spans.{within, parts}
 use Rattle.sheet.proofs.Stored.{nowhere, every_replicate, parts_blank}
 use Rattle.sheet.proofs.table.Table.blank.Goals as goal
 
-pub invariant-of-result : goal.invariant-of-result
-invariant-of-result c = (
-  ap (every (within (vec_len c.new.result))) (c.in-ok-spans.ensures.items-if-clones-equal (λ y e. e)) ∙ every_replicate (within (vec_len c.new.result)) c.args.cells nowhere (le-leb 0 _ (omega arith)),
-  tt,
-)
+pub invariant_of-result : goal.invariant_of-result
+invariant_of-result c = record { inside = ap (every (within (vec_len c.new.result))) (c.in_ok-spans.ensures.items_if_clones_equal (λ y e. e)) ∙ every_replicate (within (vec_len c.new.result)) c.args.cells nowhere (le-leb 0 _ (omega arith)) }
 
 pub returns : goal.returns
 returns c =
-    ap (λ ss. parts ss (vec_items c.new.result)) (c.in-ok-spans.ensures.items-if-clones-equal (λ y e. e)) ∙ parts_blank c.args.cells (vec_items c.new.result)
+    ap (λ ss. parts ss (vec_items c.new.result)) (c.in_ok-spans.ensures.items_if_clones_equal (λ y e. e)) ∙ parts_blank c.args.cells (vec_items c.new.result)

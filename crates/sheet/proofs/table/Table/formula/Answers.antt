@@ -19,14 +19,14 @@ fits c =
     let here = every_at (within (vec_len self.tokens)) (vec_items self.spans) c.args.cell c.index.result.now (in_place c) self.inside in
     omega (arith, leb-true _ _ (subst (λ s. within (vec_len self.tokens) s ≡ true) (sym c.index.ensures) here), c.deref.ensures.len)
 
-pub overflow-add-result : goal.overflow-add-result
-overflow-add-result c = omega (arith, fits c, c.deref.ensures.len)
+pub overflow_add-result : goal.overflow_add-result
+overflow_add-result c = omega (arith, fits c, c.deref.ensures.len)
 
-pub offset-bounds-deref-start : goal.offset-bounds-deref-start
-offset-bounds-deref-start c = omega (arith, fits c, c.deref.ensures.len)
+pub offset_bounds-deref-start : goal.offset_bounds-deref-start
+offset_bounds-deref-start c = omega (arith, fits c, c.deref.ensures.len)
 
-pub slice-bounds-result-end-2 : goal.slice-bounds-result-end-2
-slice-bounds-result-end-2 c = let h = fits c in search rules
+pub slice_bounds-result-end-2 : goal.slice_bounds-result-end-2
+slice_bounds-result-end-2 c = let h = fits c in search rules
 
 pub returns : goal.returns
 returns c =
