@@ -5,7 +5,7 @@ use std::test::Fail;
 
 fn load(heap: Global, sheet: &[u8]) -> Result<Model, Fail> {
     let mut model = Model::fresh(heap)?;
-    match model.load(sheet) {
+    match model.load(heap, sheet) {
         Ok(()) => Ok(model),
         Err(_) => Err(Fail::new("the sheet is refused")),
     }

@@ -45,8 +45,8 @@ impl Source for Pair {
 fn writes_an_entry(rt: HostRuntime) {
     let mut out = [0xaa; 1025];
     assert!(rt; write(&Pair, &mut out) == Ok(1024));
-    assert!(rt; &out[0..10] == &[1, 0, 1, 2, 1, 0, 2, 0, 0, 0]);
-    assert!(rt; &out[512..521] == &[2, 1, 1, 0, 3, 0, 0x40, 0x43, 0xff]);
+    assert!(rt; &out[0..10] == [1, 0, 1, 2, 1, 0, 2, 0, 0, 0].as_slice());
+    assert!(rt; &out[512..521] == [2, 1, 1, 0, 3, 0, 0x40, 0x43, 0xff].as_slice());
     assert!(rt; out[1024] == 0xaa);
 }
 

@@ -15,7 +15,7 @@ fn try_model(
 ) -> anyhow::Result<()> {
     let bytes = sheet(Sort::Model, head, entries);
     let mut model = Model::fresh(rt.alloc())?;
-    let Ok(()) = model.load(&bytes) else {
+    let Ok(()) = model.load(rt.alloc(), &bytes) else {
         return Err(anyhow!("not loaded"));
     };
     search(rt, name, &ModelGraph { model }, 4, limit)?;

@@ -1,5 +1,5 @@
 // The rule of two locations, its slots and its inquiries, and rules that are all or nothing.
-use crate::search::{asked, search};
+use crate::search::{concluded, search};
 use crate::sheets::{Head, heading, sheet};
 use anyhow::anyhow;
 use formula::set::contains;
@@ -15,7 +15,7 @@ const EXAMPLE: [u8; 18] = [0, 0, 3, 0, 1, 0x42, 0, 1, 1, 1, 1, 0, 1, 1, 1, 1, 1,
 
 fn load(heap: Global, bytes: &[u8]) -> anyhow::Result<RuleGraph> {
     let mut rule = Rule::fresh(heap)?;
-    let Ok(()) = rule.load(bytes) else {
+    let Ok(()) = rule.load(heap, bytes) else {
         return Err(anyhow!("not loaded"));
     };
     Ok(RuleGraph { rule })
@@ -70,7 +70,7 @@ fn try_rule(
     let bytes = sheet(Sort::Rule, head, entries);
     let graph = load(rt.alloc(), &bytes)?;
     search(rt, name, &graph, places, limit)?;
-    asked(rt, &bytes)
+    concluded(rt, &graph)
 }
 
 fn try_example(rt: &HostRuntime) -> anyhow::Result<()> {

@@ -1,11 +1,16 @@
 // An inquiry in a few places, moved to one place more wherever it is full.
 use anyhow::anyhow;
-use bench::{Answer, Bench};
+use bench::{Answer, ask};
 use graph::Graph;
 use inquiry::record::Inquiry;
 use inquiry::report::Report;
 use inquiry::standing::Standing;
 use std::alloc::{AllocError, Global};
+
+// The places and the limit of the bench.
+const PLACES: usize = 512;
+
+const LIMIT: u32 = 100_000;
 
 // By the order in which the standings are named.
 const STANDINGS: [&str; 5] = ["running", "possible", "impossible", "full", "spent"];
@@ -63,19 +68,37 @@ pub fn search<G: Graph>(
     print_report(rt, name, inquiry.report::<G>())
 }
 
-// As the bench asks it.
+fn print_asked(rt: &HostRuntime, standing: Standing, round: u32, count: u32) -> anyhow::Result<()> {
+    let standing = STANDINGS[standing as usize];
+    println!(rt; "    asked: {standing} {round} {count}")?;
+    Ok(())
+}
+
+// As the bench asks a model.
 pub fn asked(rt: &HostRuntime, bytes: &[u8]) -> anyhow::Result<()> {
-    let mut bench = Bench::new(rt.alloc())?;
-    match bench.ask(bytes) {
+    match ask(rt.alloc(), bytes) {
         Answer::Ran {
             standing,
             round,
             count,
-        } => {
-            let standing = STANDINGS[standing as usize];
-            println!(rt; "    asked: {standing} {round} {count}")?;
-            Ok(())
-        }
+        } => print_asked(rt, standing, round, count),
         Answer::Refused(_) => Err(anyhow!("refused")),
+        Answer::Memory => Err(anyhow!("no memory")),
     }
+}
+
+// In as many places and under the limit that the bench has. It takes no rules yet.
+pub fn concluded<G: Graph>(rt: &HostRuntime, graph: &G) -> anyhow::Result<()> {
+    let state = graph.start();
+    let mut outer = table(rt.alloc(), state, PLACES)?;
+    let mut inner = table(rt.alloc(), state, PLACES)?;
+    let mut work = table(rt.alloc(), state, PLACES)?;
+    let Ok(mut inquiry) = Inquiry::open(graph, &mut outer, &inner, &work, LIMIT) else {
+        return Err(anyhow!("not opened"));
+    };
+    let Ok(()) = inquiry.run(graph, &mut outer, &mut inner, &mut work, LIMIT) else {
+        return Err(anyhow!("not run"));
+    };
+    let report = inquiry.report::<G>();
+    print_asked(rt, report.standing, report.round, report.count)
 }

@@ -123,18 +123,18 @@ impl Trial {
 fn goes_on_in_longer_tables(rt: HostRuntime) -> Result<(), Fail> {
     let mut t = Trial::open(false, [3; 3], 100)?;
     assert_eq!(rt; t.told(), [0, 0, 0, 0, 100, 3, 2, 0]);
-    assert!(rt; &t.tables.outer[0..3] == &[4, 0, 9]);
+    assert!(rt; &t.tables.outer[0..3] == [4, 0, 9].as_slice());
     assert_eq!(rt; t.run([3; 3], 100), 0);
     assert_eq!(rt; t.told(), [3, 0, 3, 3, 100, 3, 2, 3]);
-    assert!(rt; &t.tables.outer[0..2] == &[4, 0]);
-    assert!(rt; &t.tables.inner[0..3] == &[0, 1, 2]);
+    assert!(rt; &t.tables.outer[0..2] == [4, 0].as_slice());
+    assert!(rt; &t.tables.inner[0..3] == [0, 1, 2].as_slice());
     assert_eq!(rt; t.widen([3; 2], [5; 3]), 0);
     assert_eq!(rt; t.told(), [0, 0, 3, 3, 100, 5, 2, 3]);
-    assert!(rt; &t.tables.outer[0..2] == &[4, 0]);
-    assert!(rt; &t.tables.inner[0..3] == &[0, 1, 2]);
+    assert!(rt; &t.tables.outer[0..2] == [4, 0].as_slice());
+    assert!(rt; &t.tables.inner[0..3] == [0, 1, 2].as_slice());
     assert_eq!(rt; t.run([5; 3], 100), 0);
     assert_eq!(rt; t.told(), [1, 2, 0, 10, 100, 5, 4, 0]);
-    assert!(rt; &t.tables.outer[0..4] == &[0, 1, 2, 3]);
+    assert!(rt; &t.tables.outer[0..4] == [0, 1, 2, 3].as_slice());
     Ok(())
 }
 
