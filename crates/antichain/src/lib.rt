@@ -1,4 +1,6 @@
 // States in a lent table, none below another: what is covered, and the one rule by which a state is added.
+#![tactic(auto)]
+
 ghost use Rattle.std.specs.Prelude.{◌≡◌, ℕ, ◌≤◌, true, false, not, length, take, IfSome, None};
 ghost use Rattle.graph.specs.Adding.{covered as is_covered, all_covered, staying, put};
 ghost use Rattle.graph.specs.Meaning.{Meaning};

@@ -1,4 +1,6 @@
 // Repeating behaviours, and which of them a graph makes.
+#![tactic(auto)]
+
 ghost use Rattle.graph.specs.Meaning.{Meaning};
 ghost use Rattle.graph.specs.Walks.{Loop};
 ghost use Rattle.behaviour.specs.Behaviours.{MakesSome};

@@ -1,5 +1,5 @@
 -- A run of a newly opened inquiry concludes it, and a model concludes as the content that it is. Assumes nothing.
-use Rattle.std.proofs.Common.{◌≡◌, ℕ, ◌+◌, ◌≤◌, Some, None, Ok, Err, vec_items, Option, sym, refl, ap, ◌∙◌, subst, arith}
+use Rattle.std.proofs.Common.{◌≡◌, ℕ, ◌+◌, ◌≤◌, Some, None, Ok, Err, vec_items, Option, sym, ap, ◌∙◌, subst, arith}
 use Rattle.graph.specs.Meaning.{Meaning}
 use Rattle.inquiry.specs.declared.standing.Standing.{Standing}
 use Rattle.inquiry.specs.declared.refusal.Refusal.{Refusal}

@@ -1,4 +1,6 @@
 // The bench: from the bytes of a sheet to an answer.
+#![tactic(auto)]
+
 mod conclude;
 
 ghost use Rattle.std.specs.Prelude.{IfOk};

@@ -1,4 +1,6 @@
 // Drills the loader: makes sheets, most of them with one fault, and prints what becomes of each.
+#![tactic(auto)]
+
 mod blocks;
 mod draft;
 mod entries;

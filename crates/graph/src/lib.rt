@@ -1,4 +1,6 @@
 // A graph that others know only by its meaning: its questions answer the meaning, and the meaning keeps the laws.
+#![tactic(auto)]
+
 ghost use Rattle.std.specs.Prelude.{◌≡◌};
 ghost use Rattle.graph.specs.Meaning.{Meaning, Lawful};
 

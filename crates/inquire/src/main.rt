@@ -1,4 +1,6 @@
 // Reads one sheet from standard input and prints how an inquiry over it ends, or why the sheet is refused.
+#![tactic(auto)]
+
 use anyhow::anyhow;
 use bench::{Answer, ask};
 use inquiry::standing::Standing;

@@ -1,5 +1,5 @@
 -- Longer tables: a run that does not end at full is the same in longer tables but for the places, and so is a new opening. Assumes nothing.
-use Rattle.std.proofs.Common.{◌≡◌, ℕ, zero, suc, ◌+◌, ◌≤◌, Bool, true, false, cond, ◌&&◌, eqb, ltb, ◌⊎◌, List, [], ◌∷◌, ◌++◌, length, Some, None, Option, sym, refl, ap, ◌∙◌, ⊎_elim, arith}
+use Rattle.std.proofs.Common.{◌≡◌, ℕ, zero, suc, ◌≤◌, Bool, true, false, cond, ◌&&◌, eqb, ltb, List, [], ◌∷◌, ◌++◌, length, Some, None, Option, sym, refl, ap, ◌∙◌, ⊎_elim, arith}
 use Rattle.std.proofs.lemmas.Bool.{cond-true, cases_Bool, lt-ltb, ltb-true}
 use Rattle.graph.specs.Adding.{covered, staying, Table, unchanged, changed_to, put, and_then, filled}
 use Rattle.graph.specs.Candidates.{all_tops, candidates}

@@ -1,7 +1,7 @@
 -- What begins at some bytes, by their number and the first three of them.
-use Rattle.std.proofs.Common.{◌≡◌, ℕ, ◌-◌, ◌<◌, ◌≤◌, List, [], ◌∷◌, length, get_or, take, drop, refl, ap, ◌∙◌, arith}
+use Rattle.std.proofs.Common.{◌≡◌, ℕ, ◌-◌, ◌<◌, ◌≤◌, List, [], ◌∷◌, length, get_or, take, drop, ◌∙◌, arith}
 use Rattle.std.proofs.lemmas.Bool.{cond-true, cond-false, ne_eqb, le-leb, lt-leb}
-use Rattle.inspect.specs.Entries.{begins, opened, past, an_entry}
+use Rattle.inspect.specs.Entries.{begins, past, an_entry}
 
 pub too_short : (xs : List ℕ) → 0 < length xs → (get_or xs 0 0 ≡ 0xff → ⊥) → length xs < 3 → (l : ℕ) × (begins xs ≡ past l)
 too_short [] some ff short = absurd (omega arith)

@@ -1,5 +1,5 @@
 -- Blocks as parts of a sheet: how long they are, and how the code cuts them.
-use Rattle.std.proofs.Common.{◌≡◌, ℕ, suc, ◌+◌, ◌-◌, ◌*◌, ◌<◌, ◌≤◌, true, List, [], ◌++◌, length, take, drop, Some, None, Option, sym, ap, ◌∙◌, mul-le-mul_right, suc-mul, add-one, arith, length-drop, length-take}
+use Rattle.std.proofs.Common.{◌≡◌, ℕ, suc, ◌+◌, ◌-◌, ◌*◌, ◌<◌, true, List, [], ◌++◌, length, take, drop, Some, None, Option, sym, ap, ◌∙◌, mul-le-mul_right, suc-mul, add-one, arith, length-drop, length-take}
 use Rattle.std.proofs.lemmas.List.{drop_all, take_all, take_rest}
 use Rattle.inspect.specs.declared.fault.Refusal.{Refusal}
 use Rattle.inspect.specs.Checks.{Check, first, block_checks, all_block_checks}

@@ -1,5 +1,5 @@
 -- Checks of a block's entries, an entry at a time: what is left decides as all of them did.
-use Rattle.std.proofs.Common.{◌≡◌, ℕ, ◌+◌, ◌≤◌, true, false, ◌⊎◌, List, [], ◌∷◌, ◌++◌, length, take, drop, Ok, Option, refl, ap, ◌∙◌, subst, ⊎_elim, arith, length-drop, length-take, Bor}
+use Rattle.std.proofs.Common.{◌≡◌, ℕ, ◌+◌, ◌≤◌, true, false, ◌⊎◌, List, [], ◌∷◌, ◌++◌, length, take, drop, Ok, Option, ap, ◌∙◌, subst, ⊎_elim, arith, length-drop, length-take, Bor}
 use Rattle.std.specs.List.{AllByRecursion as All}
 use Rattle.std.proofs.lemmas.List.{drop-drop}
 use Rattle.std.proofs.lemmas.Bool.{false≢true}
@@ -11,7 +11,7 @@ use Rattle.inspect.specs.declared.fault.Refusal.{Refusal}
 use Rattle.inspect.specs.Checks.{Check, first}
 use Rattle.inspect.specs.Entries.{Placed, placed, begins, nothing, past, an_entry, onward, entries}
 use Rattle.inspect.specs.Items.{ItemAt}
-use Rattle.inspect.proofs.Walks.{entries_step, entry_opens, Opens}
+use Rattle.inspect.proofs.Walks.{entries_step, entry_opens}
 
 -- the bytes of block xs from byte `at` on
 abbrev pub from : List ℕ → ℕ → List ℕ

@@ -10,7 +10,7 @@ use Rattle.inspect.specs.declared.fault.Refusal.{Refusal}
 use Rattle.inspect.specs.declared.fault.Layer.TheVariants as layer
 use Rattle.inspect.specs.declared.head.Head.{Head}
 use Rattle.inspect.specs.declared.head.Sort.{Sort}
-use Rattle.inspect.specs.Checks.{first, allowed, known, has_room, waits, formula_checks, token_checks}
+use Rattle.inspect.specs.Checks.{first, known, formula_checks, token_checks}
 use Rattle.inspect.specs.Entries.{Placed, placed}
 use Rattle.inspect.specs.Judged.{known_token, next_waiting}
 use Rattle.inspect.specs.Refusals.{place, refused}

@@ -1,6 +1,6 @@
 -- What the inner functions of an inspection answer: the first of their checks that does not hold, by its refusal.
 -- Assumes nothing.
-use Rattle.std.specs.Prelude.{◌≡◌, ℕ, cond, List, ◌++◌, Some, None, Ok, Err, Option, Result}
+use Rattle.std.specs.Prelude.{◌≡◌, ℕ, cond, List, Some, None, Ok, Err, Option, Result}
 use Rattle.formula.specs.declared.token.Token.{Token}
 use Rattle.formula.specs.Shape.{room, moved}
 use Rattle.inspect.specs.declared.fault.Refusal.{Refusal}

@@ -1,4 +1,6 @@
 // Sheets as bytes: blocks, head and entries, and the first fault of a sheet, if it has one.
+#![tactic(auto)]
+
 ghost use Rattle.inspect.specs.Denotes.{OneVerdict};
 ghost use Rattle.inspect.specs.Inspected.{Inspected};
 

@@ -1,4 +1,6 @@
 // A layer: a model laid over any graph, so that both move under the same letters.
+#![tactic(auto)]
+
 ghost use Rattle.layer.specs.Layers.{layer_means};
 ghost use Rattle.layer.specs.Laws.{layer_lawful};
 

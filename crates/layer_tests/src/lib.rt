@@ -1,3 +1,5 @@
+#![tactic(auto)]
+
 // Layers on examples: what an inquiry finds, and which models are refused.
 #[cfg(test)]
 mod sheets;

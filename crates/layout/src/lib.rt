@@ -1,4 +1,6 @@
 // Writing sheets: the bytes of a content, block by block.
+#![tactic(auto)]
+
 mod cursor;
 mod put;
 pub mod source;

@@ -1,9 +1,9 @@
 -- The graph of a model keeps the laws, where its fields are in range and its sets have only its locations. Assumes nothing.
-use Rattle.std.specs.Prelude.{◌≡◌, ℕ, ◌+◌, ◌*◌, ◌^◌, ◌<◌, ◌≤◌, Bool, true, false, cond, ◌&&◌, ltb, List, length, Some, None, Option, nat_lt, slice_index, refl}
+use Rattle.std.specs.Prelude.{◌≡◌, ℕ, ◌+◌, ◌*◌, ◌^◌, ◌<◌, Bool, true, false, cond, ◌&&◌, ltb, List, length, Some, None, nat_lt, slice_index, refl}
 use Rattle.std.proofs.Common.{⊎_elim, sym, ap, subst, ◌∙◌, arith, pow_pos}
 use Rattle.std.proofs.ByRecursion.{All-get_or}
 use Rattle.std.proofs.lemmas.List.{get_or_past}
-use Rattle.std.proofs.lemmas.Bool.{both_ways, cases_lt, cond_both, cond-true, eqb-true, eq-eqb, lt-ltb, ltb-true, and_parts}
+use Rattle.std.proofs.lemmas.Bool.{both_ways, cases_lt, cond_both, cond-true, eqb-true, eq-eqb, lt-ltb, ltb-true}
 use Rattle.formula.specs.Sets.{has}
 use Rattle.formula.proofs.Sets.{has_zero, has_past}
 use Rattle.graph.specs.Lists.{In}

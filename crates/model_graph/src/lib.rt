@@ -1,4 +1,6 @@
 // A model as a graph: its states are its locations, and below is equality.
+#![tactic(auto)]
+
 ghost use Rattle.std.specs.Prelude.{◌≡◌};
 ghost use Rattle.model_graph.specs.ModelGraph.{model_means, location_at};
 ghost use Rattle.layout.proofs.Valids.{test_valid};

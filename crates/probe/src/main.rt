@@ -1,4 +1,6 @@
 // Tries inquiries over small models and rules, in a few places and as the bench asks them.
+#![tactic(auto)]
+
 mod models;
 mod rules;
 mod search;

@@ -1,4 +1,6 @@
 // The pursuit: an inquiry run to its end, in tables that grow where they are full.
+#![tactic(auto)]
+
 ghost use Rattle.std.specs.Prelude.{◌≡◌, ◌<◌, ◌≤◌, length, IfOk};
 ghost use Rattle.inquiry.specs.declared.standing.Standing.TheVariants.{Full};
 ghost use Rattle.inquiry.specs.Course.{Course};

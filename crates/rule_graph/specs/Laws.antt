@@ -1,20 +1,20 @@
 -- The graph of a rule keeps the laws. Assumes nothing.
-use Rattle.std.specs.Prelude.{◌≡◌, ℕ, zero, suc, ◌+◌, ◌^◌, ◌<◌, ◌≤◌, Bool, true, false, cond, not, ◌&&◌, ◌||◌, ◌⊎◌, List, Some, None, Option, ◌==◌, ◌≢◌, nat_eq, refl}
-use Rattle.std.proofs.Common.{inl, inr, ⊎_elim, sym, ap, ap₂, subst, ◌∙◌, arith, pow_pos}
+use Rattle.std.specs.Prelude.{◌≡◌, ℕ, ◌^◌, ◌<◌, ◌≤◌, Bool, true, false, cond, ◌&&◌, Some, None, ◌==◌, ◌≢◌, nat_eq, refl}
+use Rattle.std.proofs.Common.{inl, inr, ⊎_elim, sym, ap, ap₂, subst, ◌∙◌, arith}
 use Rattle.std.specs.List.{range_with_len}
 use Rattle.std.proofs.lemmas.Nat.{pow_below}
-use Rattle.std.proofs.lemmas.Bool.{both_ways, cases_Bool, cases_eq, cond_both, cond-true, cond-false, eqb-true, eqb-false, eq-eqb, ne_eqb, lt-ltb, and_parts, and_from}
+use Rattle.std.proofs.lemmas.Bool.{both_ways, cases_Bool, cases_eq, cond_both, cond-true, cond-false, eqb-true, eqb-false, eq-eqb, ne_eqb, and_parts, and_from}
 use Rattle.formula.specs.Sets.{has, Within}
-use Rattle.formula.proofs.Sets.{has_zero, has_pow}
+use Rattle.formula.proofs.Sets.{has_zero}
 use Rattle.graph.specs.Lists.{In, Distinct, products}
 use Rattle.graph.specs.Meaning.{Meaning, Lawful, Held, Leads}
-use Rattle.graph.proofs.Counting.{in_counting, counting_in, counting_once}
-use Rattle.graph.proofs.Members.{in_kept, kept_in, kept_once, in_products, products_in, products_once}
+use Rattle.graph.proofs.Counting.{counting_in, counting_once}
+use Rattle.graph.proofs.Members.{in_kept, kept_in, kept_once, products_in, products_once}
 use Rattle.rule_graph.specs.declared.masks.Masks.{Masks}
 use Rattle.rule_graph.specs.Alternating.{Alternating, Sound}
-use Rattle.rule_graph.specs.RuleGraph.{those, part, pair, all, unsettled, satisfied, settling, is_pair, pairs, alike, below, Steps, Owes, slot_of, rule_means}
-use Rattle.rule_graph.specs.Sets.{those_small, in_those, those_in, in_small, same_set, part_le, part_within, within_part, member_some}
-use Rattle.rule_graph.specs.Pairs.{Pair, pair_is, is_pair_of, in_unsettled, unsettled_in, unsettled_small, in_settling, owed_settling, held_settling, settling_held, settling_small, in_satisfied, satisfied_in, satisfied_small}
+use Rattle.rule_graph.specs.RuleGraph.{part, pair, all, unsettled, satisfied, settling, is_pair, pairs, alike, below, Steps, Owes, slot_of, rule_means}
+use Rattle.rule_graph.specs.Sets.{those_small, those_in, in_small, same_set, part_le, part_within, within_part, member_some}
+use Rattle.rule_graph.specs.Pairs.{Pair, pair_is, is_pair_of, in_unsettled, unsettled_in, in_settling, owed_settling, held_settling, settling_held, settling_small, in_satisfied, satisfied_in, satisfied_small}
 
 -- below, by members
 pub record Under (a b : Masks) : Type 0 where

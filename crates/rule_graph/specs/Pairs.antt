@@ -1,14 +1,14 @@
 -- What it is to be a pair, by members, and the sets that the graph is made of. Assumes nothing.
-use Rattle.std.specs.Prelude.{◌≡◌, ℕ, ◌^◌, ◌<◌, Bool, true, false, not, ◌&&◌, ◌||◌, ◌⊎◌, ◌==◌, nat_lt, refl}
-use Rattle.std.proofs.Common.{inl, inr, ⊎_elim, sym, ap, subst, ◌∙◌, arith}
+use Rattle.std.specs.Prelude.{◌≡◌, ℕ, ◌^◌, ◌<◌, true, false, not, ◌&&◌, ◌||◌, ◌⊎◌, ◌==◌, nat_lt}
+use Rattle.std.proofs.Common.{inl, inr, ⊎_elim, sym, ap, ◌∙◌}
 use Rattle.std.specs.Int.Bits.{bit_and}
 use Rattle.std.proofs.lemmas.Bool.{both_ways, cases_Bool, lt-ltb, ltb-true, eqb-true, eq-eqb, and_parts, and_from, not-true, not_from_false, or_cases, or_left, or_right}
 use Rattle.formula.specs.Sets.{has, Within}
 use Rattle.formula.proofs.Sets.{has_zero, has_and}
 use Rattle.rule_graph.specs.declared.masks.Masks.{Masks}
 use Rattle.rule_graph.specs.Alternating.{Alternating}
-use Rattle.rule_graph.specs.RuleGraph.{those, part, unsettled, settling, satisfied, is_pair}
-use Rattle.rule_graph.specs.Sets.{those_small, in_those, those_in, in_small, same_set, part_within, within_part}
+use Rattle.rule_graph.specs.RuleGraph.{part, unsettled, settling, satisfied, is_pair}
+use Rattle.rule_graph.specs.Sets.{those_small, in_those, those_in, same_set, part_within, within_part}
 
 pub record Pair (r : Alternating) (p : Masks) : Type 0 where
   pub small : p.held < 2 ^ r.locations

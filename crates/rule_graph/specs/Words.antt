@@ -1,6 +1,6 @@
 -- Operations on words meet the sets that they stand for, and a rule's content is sound. Assumes nothing.
-use Rattle.std.specs.Prelude.{◌≡◌, ℕ, zero, suc, ◌+◌, ◌-◌, ◌*◌, ◌%◌, ◌^◌, ◌<◌, ◌≤◌, Bool, true, false, cond, not, ◌&&◌, ◌||◌, bit_and, bit_or, refl}
-use Rattle.std.proofs.Common.{sym, ap, ap₂, subst, ◌∙◌, arith, pow_pos, pow_mono}
+use Rattle.std.specs.Prelude.{◌≡◌, ℕ, suc, ◌-◌, ◌*◌, ◌%◌, ◌^◌, ◌<◌, ◌≤◌, Bool, true, false, cond, not, ◌&&◌, ◌||◌, bit_and, bit_or}
+use Rattle.std.proofs.Common.{sym, ap, subst, ◌∙◌, arith, pow_pos, pow_mono}
 use Rattle.std.proofs.lemmas.Nat.{and_le_l, or_lt, or_comm, one_shl}
 use Rattle.std.proofs.lemmas.Bool.{lt-ltb}
 use Rattle.formula.specs.Sets.{has}

@@ -1,4 +1,6 @@
 // A rule as a graph: a state is a held set of locations and an owed one, and a slot is found without listing the states.
+#![tactic(auto)]
+
 ghost use Rattle.std.specs.Prelude.{◌≡◌, ◌^◌, ◌<◌};
 ghost use Rattle.sheet.specs.Rules.{rule_content};
 ghost use Rattle.rule_graph.specs.Admission.{Admission};

@@ -6,7 +6,6 @@ use Rattle.inspect.specs.declared.head.Head.{Head}
 use Rattle.inspect.specs.declared.head.Sort.{Sort}
 use Rattle.inspect.specs.declared.head.Sort.TheVariants as sort
 use Rattle.inspect.specs.Contents.{contents}
-use Rattle.inspect.specs.Denotes.{Content, Denotes}
 use Rattle.inspect.specs.Entries.{all_entries}
 use Rattle.inspect.specs.Format.{blocks}
 use Rattle.inspect.proofs.Meaning.{denotes_sound}

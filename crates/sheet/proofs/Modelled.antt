@@ -1,5 +1,5 @@
 -- Models: the sets that a table names, and the content that is written for them.
-use Rattle.std.proofs.Common.{◌≡◌, ℕ, ◌+◌, ◌%◌, ◌^◌, ◌<◌, ◌≤◌, true, ltb, List, [], ◌∷◌, map, length, get_or, sym, refl, ap, ◌∙◌, ap₂, mod-eq_of_lt, arith, pow_mono}
+use Rattle.std.proofs.Common.{◌≡◌, ℕ, ◌^◌, ◌<◌, ◌≤◌, true, List, [], ◌∷◌, map, length, get_or, sym, refl, ap, ◌∙◌, ap₂, mod-eq_of_lt, arith, pow_mono}
 use Rattle.std.proofs.lemmas.List.{get_or-map, get_or_past, length-map}
 use Rattle.std.proofs.lemmas.Bool.{and_parts, ltb-true}
 use Rattle.formula.specs.declared.token.Token.{Token}
@@ -9,7 +9,7 @@ use Rattle.inspect.specs.declared.head.Sort.TheVariants as sort
 use Rattle.inspect.specs.Contents.{contents}
 use Rattle.inspect.specs.Denotes.{Content}
 use Rattle.layout.specs.Successors.{spelled, with_successors}
-use Rattle.layout.specs.Valid.{Valid, every, is_valid}
+use Rattle.layout.specs.Valid.{Valid, is_valid}
 use Rattle.layout.proofs.Successors.{named_small, spelled_valid, spelled_is}
 use Rattle.layout.proofs.Valids.{valid_test}
 use Rattle.sheet.specs.Automata.{head_of, model_of, small}

@@ -1,4 +1,6 @@
 // Rules and models: read from sheets and written as sheets.
+#![tactic(auto)]
+
 pub mod automaton;
 mod cells;
 pub mod error;

@@ -1,4 +1,6 @@
 // Shows what a sheet says: reads one from standard input and prints what it holds, or why it is refused.
+#![tactic(auto)]
+
 mod report;
 
 use anyhow::anyhow;

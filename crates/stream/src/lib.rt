@@ -1,4 +1,6 @@
 // Standard input, as far as a sheet can go.
+#![tactic(auto)]
+
 ghost use Rattle.std.specs.Prelude.{◌≤◌, IfOk, vec_len};
 
 use inspect::MOST_BLOCKS;

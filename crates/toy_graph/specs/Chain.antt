@@ -1,5 +1,5 @@
 -- The graph of a chain into an accepting loop, with a state above the chain. Assumes nothing.
-use Rattle.std.specs.Prelude.{◌≡◌, ℕ, ◌-◌, Bool, true, cond, ◌&&◌, ◌||◌, [], ◌∷◌, Some, None, Option, ◌==◌, nat_le, nat_lt}
+use Rattle.std.specs.Prelude.{◌≡◌, ℕ, ◌-◌, Bool, true, cond, ◌&&◌, ◌||◌, [], ◌∷◌, Some, None, ◌==◌, nat_le, nat_lt}
 use Rattle.graph.specs.Meaning.{Meaning}
 
 -- whether a has a step under the letter

@@ -1,9 +1,9 @@
 -- The graph of the chain keeps the laws, each found by trying all states. Assumes nothing.
-use Rattle.std.specs.Prelude.{◌≡◌, ℕ, zero, suc, ◌-◌, ◌<◌, ◌≤◌, Bool, true, false, cond, not, ◌&&◌, ◌||◌, ltb, ◌⊎◌, List, [], ◌∷◌, Some, None, Option, ◌==◌, ◌≢◌, nat_lt, refl}
-use Rattle.std.proofs.Common.{inl, inr, ⊎_elim, sym, ap, subst, ◌∙◌, arith}
-use Rattle.std.proofs.lemmas.Bool.{false≢true, cases_eq, cond-true, eqb-true, lt-ltb, ltb-true, and_parts, and_from}
+use Rattle.std.specs.Prelude.{◌≡◌, ℕ, zero, suc, ◌-◌, ◌<◌, Bool, true, false, cond, not, ◌&&◌, ◌||◌, ltb, List, [], ◌∷◌, Some, None, ◌==◌, ◌≢◌, nat_lt, refl}
+use Rattle.std.proofs.Common.{inl, inr, ⊎_elim, sym, subst, ◌∙◌, arith}
+use Rattle.std.proofs.lemmas.Bool.{false≢true, cases_eq, cond-true, eqb-true, ltb-true, and_parts, and_from}
 use Rattle.graph.specs.Lists.{In}
-use Rattle.graph.specs.Meaning.{Meaning, State, Lawful}
+use Rattle.graph.specs.Meaning.{Lawful}
 use Rattle.toy_graph.specs.Chain.{moves, under, leads, chain_means}
 
 -- whether the first test, passed, has the second pass

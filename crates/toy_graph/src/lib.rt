@@ -1,4 +1,6 @@
 // A small graph with a true order: an inquiry over it fills its tables, goes on in longer ones, and ends either way.
+#![tactic(auto)]
+
 ghost use Rattle.std.specs.Prelude.{◌≡◌};
 ghost use Rattle.toy_graph.specs.Chain.{chain_means, moves as is_moving};
 ghost use Rattle.toy_graph.specs.Laws.{chain_lawful};

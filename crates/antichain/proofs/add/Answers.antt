@@ -1,5 +1,5 @@
 -- Adding puts: c is covered, or what stays leaves a place, or it does not.
-use Rattle.std.proofs.Common.{◌≡◌, ℕ, ◌-◌, length, refl, arith, length-set}
+use Rattle.std.proofs.Common.{◌≡◌, ℕ, length, refl, arith, length-set}
 use Rattle.antichain.proofs.Tables.{take_min, put_covered, put_placed, put_full, not_both}
 use Rattle.antichain.proofs.add.Goals as goal
 

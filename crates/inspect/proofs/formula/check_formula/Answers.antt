@@ -1,4 +1,4 @@
-use Rattle.std.proofs.Common.{◌≡◌, sym, ap, ◌∙◌, arith}
+use Rattle.std.proofs.Common.{sym, ◌∙◌}
 use Rattle.std.proofs.lemmas.Bool.{cond-true, cond-false, eq-eqb, ne_eqb}
 use Rattle.inspect.proofs.Tokens.{token_unknown, token_crowded, token_next, token_last, next_few}
 use Rattle.inspect.proofs.formula.check_formula.Goals as goal

@@ -1,9 +1,9 @@
 -- The slots of the pair that the masks are.
-use Rattle.std.proofs.Common.{◌≡◌, ◌^◌, ◌<◌, sym, refl, ap, ◌∙◌, subst, ap₂}
+use Rattle.std.proofs.Common.{◌^◌, ◌<◌, sym, ap, ◌∙◌, subst, ap₂}
 use Rattle.sheet.specs.Rules.{rule_content}
 use Rattle.rule_graph.specs.Alternating.{alternating}
 use Rattle.rule_graph.specs.RuleGraph.{pair, settling, satisfied, owing_slot}
-use Rattle.rule_graph.specs.Pairs.{Pair, pair_is, satisfied_small}
+use Rattle.rule_graph.specs.Pairs.{pair_is, satisfied_small}
 use Rattle.rule_graph.proofs.Questions.{slot_none, slot_first, slot_second}
 use Rattle.rule_graph.proofs.RuleGraphGraph.slot.Goals as goal
 

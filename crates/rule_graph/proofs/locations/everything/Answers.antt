@@ -1,4 +1,4 @@
-use Rattle.std.proofs.Common.{◌≡◌, ◌-◌, ◌^◌, ◌<◌, true, sym, ap, ◌∙◌, arith, pow_pos}
+use Rattle.std.proofs.Common.{◌-◌, ◌<◌, true, sym, ap, ◌∙◌, arith, pow_pos}
 use Rattle.std.proofs.lemmas.Nat.{one_shl}
 use Rattle.rule_graph.specs.RuleGraph.{those}
 use Rattle.rule_graph.specs.Words.{valid, all_ones}

@@ -1,7 +1,7 @@
-use Rattle.std.proofs.Common.{◌++◌, map, refl, ap, ◌∙◌, arith}
+use Rattle.std.proofs.Common.{map, refl, ap, ◌∙◌}
 use Rattle.inspect.specs.Contents.{entry_of}
 use Rattle.inspect.specs.Denotes.{laid}
-use Rattle.inspect.specs.Format.{block, blocks}
+use Rattle.inspect.specs.Format.{block}
 use Rattle.inspect.proofs.Cuts.{all_entries_on, entries_fit}
 use Rattle.sheet.specs.Tables.{formulas}
 use Rattle.sheet.proofs.filling.fill.Goals as goal

@@ -1,4 +1,4 @@
-use Rattle.std.proofs.Common.{◌≡◌, ◌+◌, ◌*◌, ◌++◌, map, length, set, sym, refl, ap, ◌∙◌, ⊎_elim, arith}
+use Rattle.std.proofs.Common.{◌≡◌, ◌+◌, ◌*◌, ◌++◌, map, length, set, sym, ap, ◌∙◌, ⊎_elim, arith}
 use Rattle.inspect.specs.Contents.{read, entry_of}
 use Rattle.inspect.specs.Denotes.{laid}
 use Rattle.inspect.specs.Entries.{entries}

@@ -1,4 +1,4 @@
-use Rattle.std.proofs.Common.{sym, refl, ap, ◌∙◌, subst, arith}
+use Rattle.std.proofs.Common.{sym, refl, ap, ◌∙◌, arith}
 use lib.Bits.{bit_and}
 use Rattle.sheet.specs.Rules.{rule_content}
 use Rattle.rule_graph.specs.Alternating.{alternating}

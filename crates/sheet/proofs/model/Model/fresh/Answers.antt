@@ -1,4 +1,4 @@
-use Rattle.std.proofs.Common.{refl, ap, ◌∙◌}
+use Rattle.std.proofs.Common.{ap, ◌∙◌}
 use Rattle.inspect.specs.declared.head.Sort.TheVariants as sort
 use Rattle.layout.specs.Valid.{is_valid}
 use Rattle.sheet.specs.Automata.{model_of, small}
