@@ -2,7 +2,7 @@
 use Rattle.std.proofs.Common.{◌≡◌, ℕ, zero, suc, pred, ◌+◌, ◌-◌, ◌*◌, ◌/◌, ◌%◌, ◌^◌, ◌<◌, ◌≤◌, Bool, true, false, cond, ◌||◌, eqb, ltb, List, [], ◌∷◌, ◌++◌, length, get_or, Some, filter, sym, refl, ap, ◌∙◌, ap₂, ⊎_elim, append-nil, zero-le, mod-eq_of_lt, one-mul, zero-add, add-one, one-add, arith}
 use native.Mathlib.Nat.{mod-one, mod-mod}
 use lib.Bits.{bit_or, or_shifted_r, or_zero_r}
-use Rattle.std.specs.List.{range_with_len, AllByRecursion as All, slice_get}
+use Rattle.std.specs.List.{range_with_len, AllByRecursion, slice_get}
 use Rattle.std.proofs.lemmas.Nat.{or_lt, or_mod, pow_pos, pow_below, mod-pow-add, mod_below}
 use Rattle.std.proofs.lemmas.List.FromFn.{length-range_with_len, get_or-range_with_len, filter_of_map_range_with_len_more}
 use Rattle.std.proofs.ByRecursion.{All-from_get_or, all_kept_by}
@@ -24,7 +24,7 @@ named_append (False ∷ ts) us = named_append ts us
 named_append (And ∷ ts) us = named_append ts us
 named_append (Or ∷ ts) us = named_append ts us
 
-pub named_below : (n : ℕ) (ts : List Token) → All (λ t. Below n t) ts → named ts < 2 ^ n
+pub named_below : (n : ℕ) (ts : List Token) → AllByRecursion (λ t. Below n t) ts → named ts < 2 ^ n
 named_below n [] h = pow_pos n
 named_below n (Location l ∷ ts) h = or_lt n (2 ^ l) (named ts) (pow_below l n h.0) (named_below n ts h.1)
 named_below n (True ∷ ts) h = named_below n ts h.1
@@ -90,25 +90,25 @@ spelling_shaped n mask h = go (members n mask) h
     go [] h = absurd (omega arith)
     go (l ∷ ls) h = joins ls
 
-all_listed : (P : Token → Type 0) → P Or → (ls : List ℕ) → All (λ l. P (Location l)) ls → All P (listed ls)
+all_listed : (P : Token → Type 0) → P Or → (ls : List ℕ) → AllByRecursion (λ l. P (Location l)) ls → AllByRecursion P (listed ls)
 all_listed P or [] h = tt
 all_listed P or (l ∷ ls) h = (h.0, go ls h.1)
   where
-    go : (ls : List ℕ) → All (λ l. P (Location l)) ls → All P (ors ls)
+    go : (ls : List ℕ) → AllByRecursion (λ l. P (Location l)) ls → AllByRecursion P (ors ls)
     go [] h = tt
     go (l ∷ ls) h = (h.0, (or, go ls h.1))
 
-pub spelling_below : (n mask : ℕ) → All (Below n) (spelling n mask)
+pub spelling_below : (n mask : ℕ) → AllByRecursion (Below n) (spelling n mask)
 spelling_below n mask =
     all_listed (Below n) tt (members n mask) (all_kept_by (has mask) (λ l. l < n) (range_with_len 0 n) (All-from_get_or (λ l. l < n) (range_with_len 0 n) 0 small))
   where
     small : (i : ℕ) → i < length (range_with_len 0 n) → get_or (range_with_len 0 n) i 0 < n
     small i h = let k : i < n = omega (arith, length-range_with_len 0 n) in omega (arith, get_or-range_with_len 0 n i 0 k)
 
-pub spelling_union : (n mask : ℕ) → All (λ t. InUnion t) (spelling n mask)
+pub spelling_union : (n mask : ℕ) → AllByRecursion (λ t. InUnion t) (spelling n mask)
 spelling_union n mask = all_listed InUnion tt (members n mask) (go (members n mask))
   where
-    go : (ls : List ℕ) → All (λ l. Unit {0}) ls
+    go : (ls : List ℕ) → AllByRecursion (λ l. Unit {0}) ls
     go [] = tt
     go (l ∷ ls) = (tt, go ls)
 

@@ -1,6 +1,6 @@
 -- Adding keeps the states apart and covers what was covered and what is below the new; filling does so for a list, and finds a crowd where there is no place. Assumes nothing.
 use Rattle.std.proofs.Common.{◌≡◌, ℕ, suc, ◌+◌, ◌≤◌, Bool, true, false, cond, not, ltb, ◌⊎◌, List, [], ◌∷◌, ◌++◌, length, Some, None, filter, Option, sym, refl, ap, subst, inl, inr, ⊎_elim, arith}
-use Rattle.std.specs.List.{AllByRecursion as All}
+use Rattle.std.specs.List.{AllByRecursion}
 use Rattle.std.proofs.ByRecursion.{all_kept_by, All-push, All-weaker}
 use Rattle.std.proofs.lemmas.List.{length-append}
 use Rattle.std.proofs.lemmas.Bool.{ltb-true, ltb-false, both_ways, cond_both, or_cases, or_parts, not-true, not-false}
@@ -21,7 +21,7 @@ module _ {S : Type 0} (below : S → S → Bool) where
   covered_false c (x ∷ xs) e (inr h) = covered_false c xs (or_parts (below c x) (covered below c xs) e).1 h
 
   -- c is below none of them
-  pub below_none : (c : S) (xs : List S) → covered below c xs ≡ false → All (λ y. below c y ≡ false) xs
+  pub below_none : (c : S) (xs : List S) → covered below c xs ≡ false → AllByRecursion (λ y. below c y ≡ false) xs
   below_none c [] e = tt
   below_none c (x ∷ xs) e =
       let p = or_parts (below c x) (covered below c xs) e in
@@ -41,7 +41,7 @@ module _ {S : Type 0} (below : S → S → Bool) where
   covered_right a [] ys h = h
   covered_right a (x ∷ xs) ys h = inr (covered_right a xs ys h)
 
-  apart_push : (c : S) (xs : List S) → Apart below xs → All (λ y. (below y c ≡ false) × (below c y ≡ false)) xs → Apart below (xs ++ c ∷ [])
+  apart_push : (c : S) (xs : List S) → Apart below xs → AllByRecursion (λ y. (below y c ≡ false) × (below c y ≡ false)) xs → Apart below (xs ++ c ∷ [])
   apart_push c [] p h = (tt, tt)
   apart_push c (x ∷ xs) p h = (All-push (λ y. (below x y ≡ false) × (below y x ≡ false)) xs c p.0 h.0, apart_push c xs p.1 h.1)
 
@@ -51,10 +51,10 @@ module _ {S : Type 0} (below : S → S → Bool) where
       cond_both (keep x) (x ∷ filter keep xs) (filter keep xs) (Apart below) (λ e. (all_kept_by keep (λ y. (below x y ≡ false) × (below y x ≡ false)) xs p.0, apart_kept keep xs p.1)) (λ e. apart_kept keep xs p.1)
 
   -- what stays is not below c
-  staying_out : (c : S) (xs : List S) → All (λ y. below c y ≡ false) xs → All (λ y. (below y c ≡ false) × (below c y ≡ false)) (staying below c xs)
+  staying_out : (c : S) (xs : List S) → AllByRecursion (λ y. below c y ≡ false) xs → AllByRecursion (λ y. (below y c ≡ false) × (below c y ≡ false)) (staying below c xs)
   staying_out c [] h = tt
   staying_out c (x ∷ xs) h =
-      cond_both (not (below x c)) (x ∷ staying below c xs) (staying below c xs) (All (λ y. (below y c ≡ false) × (below c y ≡ false))) (λ e. ((not-true (below x c) e, h.0), staying_out c xs h.1)) (λ e. staying_out c xs h.1)
+      cond_both (not (below x c)) (x ∷ staying below c xs) (staying below c xs) (AllByRecursion (λ y. (below y c ≡ false) × (below c y ≡ false))) (λ e. ((not-true (below x c) e, h.0), staying_out c xs h.1)) (λ e. staying_out c xs h.1)
 
   pub staying_short : (c : S) (xs : List S) → length (staying below c xs) ≤ length xs
   staying_short c [] = omega arith
@@ -83,7 +83,7 @@ Joined m held cs a = State m a × (Covered m.below held a ⊎ Covered m.below cs
 -- what filling a table of n places makes of it
 pub record Filling {S : Type 0} (m : Meaning S) (n : ℕ) (cs : List S) (from to : Table S) : Type 0 where
   pub fits : length to.held ≤ n
-  pub members : All (State m) to.held
+  pub members : AllByRecursion (State m) to.held
   pub apart : Apart m.below to.held
   pub covers : (a : S) → Joined m from.held cs a → Covered m.below to.held a
   pub only : (a : S) → State m a → Covered m.below to.held a → Covered m.below from.held a ⊎ Covered m.below cs a
@@ -98,7 +98,7 @@ module _ {S : Type 0} (m : Meaning S) (l : Lawful m) where
   abbrev Below : List S → S → Type 0
   Below = Covered m.below
 
-  staying_keeps : (c : S) → State m c → (xs : List S) → All (State m) xs → (a : S) → State m a → Below xs a → Below (staying m.below c xs) a ⊎ (m.below a c ≡ true)
+  staying_keeps : (c : S) → State m c → (xs : List S) → AllByRecursion (State m) xs → (a : S) → State m a → Below xs a → Below (staying m.below c xs) a ⊎ (m.below a c ≡ true)
   staying_keeps c sc [] s a sa h = elim h [ ]
   staying_keeps c sc (x ∷ xs) s a sa h =
       let rest : Below xs a → Below (staying m.below c xs) a ⊎ (m.below a c ≡ true) = staying_keeps c sc xs s.1 a sa in
@@ -106,23 +106,23 @@ module _ {S : Type 0} (m : Meaning S) (l : Lawful m) where
       (λ e. ⊎_elim (λ k. inl (inl k)) (λ k. ⊎_elim (λ i. inl (inr i)) inr (rest k)) h)
       (λ e. ⊎_elim (λ k. inr (l.transitive a x c sa s.0 sc k (not-false (m.below x c) e))) rest h)
 
-  pushed_covers : (c : S) → State m c → (xs : List S) → All (State m) xs → (a : S) → State m a → Below xs a ⊎ (m.below a c ≡ true) → Below (pushed m.below c xs) a
+  pushed_covers : (c : S) → State m c → (xs : List S) → AllByRecursion (State m) xs → (a : S) → State m a → Below xs a ⊎ (m.below a c ≡ true) → Below (pushed m.below c xs) a
   pushed_covers c sc xs s a sa (inl h) =
       ⊎_elim (covered_left m.below a (staying m.below c xs) (c ∷ [])) (λ e. covered_right m.below a (staying m.below c xs) (c ∷ []) (inl e)) (staying_keeps c sc xs s a sa h)
   pushed_covers c sc xs s a sa (inr e) = covered_right m.below a (staying m.below c xs) (c ∷ []) (inl e)
 
   -- a state below c is covered where c is
-  covered_down : (c : S) → State m c → (xs : List S) → All (State m) xs → (a : S) → State m a → m.below a c ≡ true → Below xs c → Below xs a
+  covered_down : (c : S) → State m c → (xs : List S) → AllByRecursion (State m) xs → (a : S) → State m a → m.below a c ≡ true → Below xs c → Below xs a
   covered_down c sc [] s a sa e h = h
   covered_down c sc (x ∷ xs) s a sa e (inl h) = inl (l.transitive a c x sa sc s.0 e h)
   covered_down c sc (x ∷ xs) s a sa e (inr h) = inr (covered_down c sc xs s.1 a sa e h)
 
-  pushed_states : (c : S) → State m c → (xs : List S) → All (State m) xs → All (State m) (pushed m.below c xs)
+  pushed_states : (c : S) → State m c → (xs : List S) → AllByRecursion (State m) xs → AllByRecursion (State m) (pushed m.below c xs)
   pushed_states c sc xs s = All-push (State m) (staying m.below c xs) c (all_kept_by (λ y. not (m.below y c)) (State m) xs s) sc
 
   -- adding: the union with what is below c, apart, states, and changed exactly where c is not covered
-  pub added_states : (c : S) → State m c → (xs : List S) → All (State m) xs → All (State m) (added m.below c xs)
-  added_states c sc xs s = cond_both (covered m.below c xs) xs (pushed m.below c xs) (All (State m)) (λ e. s) (λ e. pushed_states c sc xs s)
+  pub added_states : (c : S) → State m c → (xs : List S) → AllByRecursion (State m) xs → AllByRecursion (State m) (added m.below c xs)
+  added_states c sc xs s = cond_both (covered m.below c xs) xs (pushed m.below c xs) (AllByRecursion (State m)) (λ e. s) (λ e. pushed_states c sc xs s)
 
   pub added_apart : (c : S) (xs : List S) → Apart m.below xs → Apart m.below (added m.below c xs)
   added_apart c xs p = cond_both (covered m.below c xs) xs (pushed m.below c xs) (Apart m.below) (λ e. p) (λ e. pushed_apart m.below c xs e p)
@@ -130,18 +130,18 @@ module _ {S : Type 0} (m : Meaning S) (l : Lawful m) where
   pub added_only : (c : S) (xs : List S) (a : S) → Below (added m.below c xs) a → Below xs a ⊎ (m.below a c ≡ true)
   added_only c xs a = cond_both (covered m.below c xs) xs (pushed m.below c xs) (λ l. Below l a → Below xs a ⊎ (m.below a c ≡ true)) (λ e h. inl h) (λ e. pushed_only m.below c xs a)
 
-  pub added_covers : (c : S) → State m c → (xs : List S) → All (State m) xs → (a : S) → State m a → Below xs a ⊎ (m.below a c ≡ true) → Below (added m.below c xs) a
+  pub added_covers : (c : S) → State m c → (xs : List S) → AllByRecursion (State m) xs → (a : S) → State m a → Below xs a ⊎ (m.below a c ≡ true) → Below (added m.below c xs) a
   added_covers c sc xs s a sa h =
       cond_both (covered m.below c xs) xs (pushed m.below c xs) (λ l. Below l a) (λ e. ⊎_elim (λ k. k) (λ b. covered_down c sc xs s a sa b (covered_true m.below c xs e)) h) (λ e. pushed_covers c sc xs s a sa h)
 
   pub added_same : (c : S) (xs : List S) → Below xs c → added m.below c xs ≡ xs
   added_same c xs h = cond_both (covered m.below c xs) xs (pushed m.below c xs) (λ l. l ≡ xs) (λ e. refl) (λ e. absurd (covered_false m.below c xs e h))
 
-  pub added_changed : (c : S) → State m c → (xs : List S) → All (State m) xs → added m.below c xs ≡ xs → Below xs c
+  pub added_changed : (c : S) → State m c → (xs : List S) → AllByRecursion (State m) xs → added m.below c xs ≡ xs → Below xs c
   added_changed c sc xs s e = subst (λ l. Below l c) e (added_covers c sc xs s c sc (inr (l.reflexive c sc)))
 
   -- one candidate more in front
-  filled_skip : (n : ℕ) (c : S) (cs : List S) (t : Table S) → State m c → All (State m) t.held → Below t.held c → (o : Option (Table S)) → Filled m n cs t o → Filled m n (c ∷ cs) t o
+  filled_skip : (n : ℕ) (c : S) (cs : List S) (t : Table S) → State m c → AllByRecursion (State m) t.held → Below t.held c → (o : Option (Table S)) → Filled m n cs t o → Filled m n (c ∷ cs) t o
   filled_skip n c cs t sc s h (Some u) f = record {
     fits = f.fits;
     members = f.members;
@@ -157,7 +157,7 @@ module _ {S : Type 0} (m : Meaning S) (l : Lawful m) where
     apart = f.apart;
   }
 
-  filled_push : (n : ℕ) (c : S) (cs : List S) (t : Table S) → State m c → All (State m) t.held → covered m.below c t.held ≡ false → (o : Option (Table S)) → Filled m n cs (changed_to (pushed m.below c t.held)) o → Filled m n (c ∷ cs) t o
+  filled_push : (n : ℕ) (c : S) (cs : List S) (t : Table S) → State m c → AllByRecursion (State m) t.held → covered m.below c t.held ≡ false → (o : Option (Table S)) → Filled m n cs (changed_to (pushed m.below c t.held)) o → Filled m n (c ∷ cs) t o
   filled_push n c cs t sc s e (Some u) f = record {
     fits = f.fits;
     members = f.members;
@@ -179,7 +179,7 @@ module _ {S : Type 0} (m : Meaning S) (l : Lawful m) where
   }
 
   -- with no place for c, what stays and c are a crowd
-  no_place : (n : ℕ) (c : S) (cs : List S) (t : Table S) → State m c → All (State m) t.held → Apart m.below t.held → length t.held ≤ n → covered m.below c t.held ≡ false → n ≤ length (staying m.below c t.held) → Crowded m n (Joined m t.held (c ∷ cs))
+  no_place : (n : ℕ) (c : S) (cs : List S) (t : Table S) → State m c → AllByRecursion (State m) t.held → Apart m.below t.held → length t.held ≤ n → covered m.below c t.held ≡ false → n ≤ length (staying m.below c t.held) → Crowded m n (Joined m t.held (c ∷ cs))
   no_place n c cs t sc s p fits e full = record {
     crowd = pushed m.below c t.held;
     many = omega (arith, length-append (staying m.below c t.held) (c ∷ []), staying_short m.below c t.held);
@@ -194,7 +194,7 @@ module _ {S : Type 0} (m : Meaning S) (l : Lawful m) where
           let sa = all_in (State m) t.held a s i in
           (sa, inl (covered_by m.below t.held a a i (l.reflexive a sa)))
 
-  pub fills : (n : ℕ) (cs : List S) (t : Table S) → All (State m) cs → All (State m) t.held → Apart m.below t.held → length t.held ≤ n → Filled m n cs t (filled m.below n cs t)
+  pub fills : (n : ℕ) (cs : List S) (t : Table S) → AllByRecursion (State m) cs → AllByRecursion (State m) t.held → Apart m.below t.held → length t.held ≤ n → Filled m n cs t (filled m.below n cs t)
   fills n [] t sc s p fits = record { fits = fits; members = s; apart = p; covers = λ a j. ⊎_elim (λ h. h) (λ h. elim h [ ]) j.1; only = λ a sa h. inl h; changes = inl refl }
   fills n (c ∷ cs) t sc s p fits =
       let more = fills n cs in

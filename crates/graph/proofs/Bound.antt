@@ -1,6 +1,6 @@
 -- The bound: rounds that each lose a state, whose sweeps each gain one, count fewer than K × (K + 1) sweeps. Assumes nothing.
 use Rattle.std.proofs.Common.{◌≡◌, ℕ, zero, suc, ◌+◌, ◌*◌, ◌<◌, ◌≤◌, List, [], ◌∷◌, length, sym, refl, ap, ◌∙◌, subst, ⊎_elim, suc-mul, add-mul, suc-add, zero-add, mul-one, mul-add, arith}
-use Rattle.std.specs.List.{AllByRecursion as All}
+use Rattle.std.specs.List.{AllByRecursion}
 use Rattle.std.proofs.lemmas.Nat.{mul-le}
 use Rattle.std.proofs.ByRecursion.{All-weaker}
 use Rattle.std.proofs.lemmas.Bool.{cases_lt}
@@ -41,8 +41,8 @@ record Told {S : Type 0} (m : Meaning S) (k : ℕ) (Q : S → Type 0) : Type 0 w
   told : List S
   long : length told ≡ k
   once : Distinct told
-  are_states : All (State m) told
-  hold : All Q told
+  are_states : AllByRecursion (State m) told
+  hold : AllByRecursion Q told
 
 some_state : {S : Type 0} (a : S) (xs : List S) → In a xs → 1 ≤ length xs
 some_state a [] i = elim i [ ]

@@ -1,6 +1,6 @@
 -- A sweep makes X with one more step, tells whether it gained, and is full only with a crowd; the tops are Y of 0. Assumes nothing.
 use Rattle.std.proofs.Common.{◌≡◌, ℕ, zero, suc, ◌<◌, ◌≤◌, Bool, true, false, cond, ◌⊎◌, List, [], ◌∷◌, ◌++◌, length, Some, None, Option, sym, refl, ap, subst, inl, inr, ⊎_elim, arith}
-use Rattle.std.specs.List.{AllByRecursion as All}
+use Rattle.std.specs.List.{AllByRecursion}
 use Rattle.std.proofs.ByRecursion.{All-weaker}
 use Rattle.std.proofs.lemmas.List.{length-append}
 use Rattle.std.proofs.lemmas.Bool.{cases_lt, both_ways}
@@ -159,7 +159,7 @@ module _ {S : Type 0} (m : Meaning S) (l : Lawful m) where
   top_in : (i : ℕ) → i < m.tops → In (m.top i) (all_tops m)
   top_in i lt = number_in (λ k. m.top k ∷ []) m.tops i (m.top i) lt (inl refl)
 
-  top_states : All (State m) (all_tops m)
+  top_states : AllByRecursion (State m) (all_tops m)
   top_states = all_from_in (State m) (all_tops m) go
     where
       here : (c : S) (i : ℕ) → i < m.tops → In c (m.top i ∷ []) → State m c

@@ -1,15 +1,15 @@
 -- Members of lists: a list of distinct members is no longer, and a long enough row of members meets one twice. Assumes nothing.
 use Rattle.std.proofs.Common.{◌≡◌, ℕ, zero, suc, ◌<◌, ◌≤◌, Bool, true, ◌⊎◌, List, [], ◌∷◌, length, sym, refl, ap, ◌∙◌, subst, inl, inr, ⊎_elim, arith}
-use Rattle.std.specs.List.{AllByRecursion as All}
+use Rattle.std.specs.List.{AllByRecursion}
 use Rattle.std.proofs.lemmas.Bool.{cases_lt}
 use Rattle.graph.specs.Lists.{In, Distinct, Covered}
 
-pub all_in : {S : Type 0} (P : S → Type 0) (xs : List S) (a : S) → All P xs → In a xs → P a
+pub all_in : {S : Type 0} (P : S → Type 0) (xs : List S) (a : S) → AllByRecursion P xs → In a xs → P a
 all_in P [] a ps i = elim i [ ]
 all_in P (x ∷ xs) a ps (inl e) = subst P (sym e) ps.0
 all_in P (x ∷ xs) a ps (inr i) = all_in P xs a ps.1 i
 
-pub all_from_in : {S : Type 0} (P : S → Type 0) (xs : List S) → ((a : S) → In a xs → P a) → All P xs
+pub all_from_in : {S : Type 0} (P : S → Type 0) (xs : List S) → ((a : S) → In a xs → P a) → AllByRecursion P xs
 all_from_in P [] h = tt
 all_from_in P (x ∷ xs) h = (h x (inl refl), all_from_in P xs (λ a i. h a (inr i)))
 
@@ -44,7 +44,7 @@ in_without x y (z ∷ zs) (inl e) (inr j) = inr j
 in_without x y (z ∷ zs) (inr i) (inl p) = inr (inl p)
 in_without x y (z ∷ zs) (inr i) (inr j) = ⊎_elim inl (λ k. inr (inr k)) (in_without x y zs i j)
 
-pub distinct_length : {S : Type 0} (xs ys : List S) → Distinct xs → All (λ x. In x ys) xs → length xs ≤ length ys
+pub distinct_length : {S : Type 0} (xs ys : List S) → Distinct xs → AllByRecursion (λ x. In x ys) xs → length xs ≤ length ys
 distinct_length [] ys d h = omega arith
 distinct_length (x ∷ xs) ys d h =
     let rest = all_from_in (λ y. In y (without x ys h.0)) xs (λ y i. ⊎_elim (λ e. absurd (d.0 (subst (λ z. In z xs) (sym e) i))) (λ j. j) (in_without x y ys h.0 (all_in (λ z. In z ys) xs y h.1 i))) in

@@ -1,6 +1,6 @@
 -- One sweep: X with one more step is what is below inner, below its slots, or below the accepting slots of outer. Assumes nothing.
 use Rattle.std.proofs.Common.{◌≡◌, ℕ, zero, suc, ◌<◌, true, ◌⊎◌, List, Some, sym, ◌∙◌, inl, inr, arith}
-use Rattle.std.specs.List.{AllByRecursion as All}
+use Rattle.std.specs.List.{AllByRecursion}
 use Rattle.graph.specs.Lists.{In, Covered}
 use Rattle.graph.specs.Meaning.{Meaning, Lawful, State}
 use Rattle.graph.specs.Sets.{Y, X, Represents}
@@ -25,7 +25,7 @@ abbrev pub BelowAccepting : {S : Type 0} → Meaning S → List S → S → Type
 BelowAccepting {S} m held a = (c : S) × Slot m held c × (m.accepts c ≡ true) × (m.below a c ≡ true)
 
 module _ {S : Type 0} (m : Meaning S) (l : Lawful m) where
-  pub slot_state : (held : List S) (c : S) → All (State m) held → Slot m held c → State m c
+  pub slot_state : (held : List S) (c : S) → AllByRecursion (State m) held → Slot m held c → State m c
   slot_state held c s t = l.slot_state t.letter t.to t.place c t.a_letter (all_in (State m) held t.to s t.member) t.a_slot t.holds
 
   -- a state that steps to below a member is below a slot's state

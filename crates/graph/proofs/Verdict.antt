@@ -1,6 +1,6 @@
 -- What the end of a round tells: the next Y, no loop if the start is lost, a loop if nothing is, and else a lost state. Assumes nothing.
 use Rattle.std.proofs.Common.{◌≡◌, ℕ, suc, Bool, true, false, List, [], ◌∷◌, refl, inl, inr, ⊎_elim}
-use Rattle.std.specs.List.{AllByRecursion as All}
+use Rattle.std.specs.List.{AllByRecursion}
 use Rattle.std.proofs.lemmas.Bool.{and_parts, and_cases, both_ways}
 use Rattle.graph.specs.Adding.{covered, all_covered}
 use Rattle.graph.specs.Lists.{In, Covered}
@@ -14,7 +14,7 @@ use Rattle.graph.proofs.Loops.{loop_stays, loop_found}
 use Rattle.graph.proofs.Sets.{settled, y_down, y_falls}
 
 module _ {S : Type 0} (below : S → S → Bool) where
-  all_covered_true : (xs ys : List S) → all_covered below xs ys ≡ true → All (Covered below ys) xs
+  all_covered_true : (xs ys : List S) → all_covered below xs ys ≡ true → AllByRecursion (Covered below ys) xs
   all_covered_true [] ys e = tt
   all_covered_true (x ∷ xs) ys e =
       let p = and_parts (covered below x ys) (all_covered below xs ys) e in

@@ -1,6 +1,6 @@
 -- What a list holds, and lists of states none of which is below another. Assumes nothing.
 use Rattle.std.specs.Prelude.{◌≡◌, Bool, true, false, ◌⊎◌, List, [], ◌∷◌, ◌++◌, map}
-use Rattle.std.specs.List.{AllByRecursion as All}
+use Rattle.std.specs.List.{AllByRecursion}
 
 abbrev pub In : {S : Type 0} → S → List S → Type 0
 In x [] = ⊥
@@ -24,4 +24,4 @@ Covered below (x ∷ xs) a = (below a x ≡ true) ⊎ Covered below xs a
 -- none is below another
 abbrev pub Apart : {S : Type 0} → (S → S → Bool) → List S → Type 0
 Apart below [] = Unit {0}
-Apart below (x ∷ xs) = All (λ y. (below x y ≡ false) × (below y x ≡ false)) xs × Apart below xs
+Apart below (x ∷ xs) = AllByRecursion (λ y. (below x y ≡ false) × (below y x ≡ false)) xs × Apart below xs

@@ -1,6 +1,6 @@
 -- The sets Y and X of a graph, when a list of states represents a set, and the sum for n and m. Assumes nothing.
 use Rattle.std.specs.Prelude.{◌≡◌, ℕ, zero, suc, ◌+◌, ◌<◌, true, List, length}
-use Rattle.std.specs.List.{AllByRecursion as All}
+use Rattle.std.specs.List.{AllByRecursion}
 use Rattle.graph.specs.Lists.{Covered, Apart}
 use Rattle.graph.specs.Meaning.{Meaning, State}
 use Rattle.graph.specs.Walks.{Step, Walk}
@@ -30,7 +30,7 @@ Same P Q = Within P Q × Within Q P
 
 -- P holds of exactly the states below some member of the list
 pub record Represents {S : Type 0} (m : Meaning S) (l : List S) (P : S → Type 0) : Type 0 where
-  pub members : All (State m) l
+  pub members : AllByRecursion (State m) l
   pub covers : (a : S) → P a → State m a × Covered m.below l a
   pub only : (a : S) → State m a → Covered m.below l a → P a
 
@@ -52,5 +52,5 @@ Sum m n j t = (u : ℕ) × Rounds m n u × (t ≡ u + j)
 pub record Crowded {S : Type 0} (m : Meaning S) (n : ℕ) (P : S → Type 0) : Type 0 where
   pub crowd : List S
   pub many : length crowd ≡ suc n
-  pub members : All P crowd
+  pub members : AllByRecursion P crowd
   pub apart : Apart m.below crowd

@@ -2,8 +2,8 @@
 use Rattle.std.specs.Prelude.{Bool, true}
 use Rattle.graph.specs.Meaning.{Meaning}
 use Rattle.inquiry.specs.declared.sweep.Pass.{Pass}
-use Rattle.inquiry.specs.declared.sweep.Pass.TheVariants.{All, Accepting}
+use Rattle.inquiry.specs.declared.sweep.Pass.TheVariants.{All as Every, Accepting}
 
 abbrev pub passing : {S : Type 0} → Meaning S → Pass → S → Bool
-passing m All c = true
+passing m Every c = true
 passing m Accepting c = m.accepts c

@@ -1,13 +1,13 @@
 -- The first check that does not hold, and lists of checks that all hold. Assumes nothing.
 use Rattle.std.proofs.Common.{◌≡◌, ℕ, Bool, true, false, cond, List, [], ◌∷◌, ◌++◌, Some, None, sym, refl, ap, ◌∙◌, arith}
-use Rattle.std.specs.List.{AllByRecursion as All}
+use Rattle.std.specs.List.{AllByRecursion}
 use Rattle.std.proofs.ByRecursion.{All-append}
 use Rattle.inspect.specs.declared.fault.Refusal.{Refusal}
 use Rattle.inspect.specs.declared.head.Asked.{Asked}
 use Rattle.inspect.specs.Checks.{Check, checks, first, FirstFault}
 
 abbrev pub Pass : List Check → Type 0
-Pass cs = All (λ c. c.holds ≡ true) cs
+Pass cs = AllByRecursion (λ c. c.holds ≡ true) cs
 
 pub first_none : (cs : List Check) → first cs ≡ None → Pass cs
 first_none [] h = tt
@@ -36,7 +36,7 @@ first_append_some (c ∷ cs) ys r h = go c.holds (first_append_some cs ys r) h
     go true rest h = rest h
     go false rest h = h
 
-pub all_parts : {X : Type 0} (P : X → Type 0) (xs ys : List X) → All P (xs ++ ys) → All P xs × All P ys
+pub all_parts : {X : Type 0} (P : X → Type 0) (xs ys : List X) → AllByRecursion P (xs ++ ys) → AllByRecursion P xs × AllByRecursion P ys
 all_parts P [] ys h = (tt, h)
 all_parts P (x ∷ xs) ys h = let p = all_parts P xs ys h.1 in ((h.0, p.0), p.1)
 

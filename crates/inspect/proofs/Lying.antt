@@ -2,7 +2,7 @@
 use Rattle.std.proofs.Common.{◌≡◌, ℕ, zero, suc, ◌+◌, ◌<◌, true, List, [], ◌∷◌, ◌++◌, map, length, drop, sym, refl, ap, ◌∙◌, subst, ap₂, arith}
 use mathlib.Core.Path.{subst⁻¹}
 use lib.ListN.{length-map}
-use Rattle.std.specs.List.{AllByRecursion as All}
+use Rattle.std.specs.List.{AllByRecursion}
 use Rattle.std.proofs.ByRecursion.{All-append}
 use Rattle.std.proofs.lemmas.List.{map-append}
 use Rattle.std.proofs.lemmas.Bool.{false≢true}
@@ -20,7 +20,7 @@ pub record Readable (p : Placed) : Type 0 where
   pub coded : map code (map read p.tokens) ≡ p.tokens
 
 abbrev Back : List ℕ → List Placed → Type 0
-Back rest ps = All Readable ps → Lies rest (map entry_of ps)
+Back rest ps = AllByRecursion Readable ps → Lies rest (map entry_of ps)
 
 onward_lies : (k at : ℕ) (rest : List ℕ) → ((at' : ℕ) (rest' : List ℕ) → length rest' < length rest → Back rest' (entries k at' rest')) → (b : Begins) → Begun rest b → Back rest (onward (entries k) k at rest b)
 onward_lies k at rest more nothing none all = none
@@ -36,7 +36,7 @@ walk_lies zero k at rest h = absurd (omega arith)
 walk_lies (suc n) k at rest h =
     subst⁻¹ (Back rest) (entries_step k at rest) (onward_lies k at rest (λ at' rest' l. walk_lies n k at' rest' (omega arith)) (begins rest) (begun rest))
 
-pub entries_lie : (k at : ℕ) (rest : List ℕ) → All Readable (entries k at rest) → Lies rest (map entry_of (entries k at rest))
+pub entries_lie : (k at : ℕ) (rest : List ℕ) → AllByRecursion Readable (entries k at rest) → Lies rest (map entry_of (entries k at rest))
 entries_lie k at rest all = walk_lies (suc (length rest)) k at rest (omega arith) all
 
 -- an entry does not begin with FF, and its tokens can be read back
@@ -46,9 +46,9 @@ pub record Plain (e : Entry) : Type 0 where
 
 -- ps, read, are the entries es
 abbrev Found : List Entry → List Placed → Type 0
-Found es ps = All Readable ps × (es ≡ map entry_of ps)
+Found es ps = AllByRecursion Readable ps × (es ≡ map entry_of ps)
 
-pub lies_found : (es : List Entry) (k at : ℕ) (rest : List ℕ) → All Plain es → Lies rest es → Found es (entries k at rest)
+pub lies_found : (es : List Entry) (k at : ℕ) (rest : List ℕ) → AllByRecursion Plain es → Lies rest es → Found es (entries k at rest)
 lies_found [] k at rest all none = subst⁻¹ (Found []) (entries_none k at rest none) (tt, refl)
 lies_found (e ∷ es) k at rest all lies =
     let bytes = map code e.tokens in
@@ -59,7 +59,7 @@ lies_found (e ∷ es) k at rest all lies =
     subst⁻¹ (Found (e ∷ es)) step ((record { fits = refl; coded = ap (map code) all.0.tokens }, more.0), ap₂ (λ x xs. x ∷ xs) same more.1)
 
 -- the same of all blocks
-pub entries_fill : (xs : List ℕ) (k n : ℕ) → All Readable (all_entries xs k n) → Fills xs k n (map entry_of (all_entries xs k n))
+pub entries_fill : (xs : List ℕ) (k n : ℕ) → AllByRecursion Readable (all_entries xs k n) → Fills xs k n (map entry_of (all_entries xs k n))
 entries_fill xs k zero all = refl
 entries_fill xs k (suc n) all =
     let here = entries k 2 (body (block xs k)) in
@@ -67,12 +67,12 @@ entries_fill xs k (suc n) all =
     let parts = all_parts Readable here rest all in
     (map entry_of here, map entry_of rest, map-append entry_of here rest, entries_lie k 2 (body (block xs k)) parts.0, entries_fill xs (suc k) n parts.1)
 
-pub fills_found : (xs : List ℕ) (k n : ℕ) (es : List Entry) → All Plain es → Fills xs k n es → Found es (all_entries xs k n)
+pub fills_found : (xs : List ℕ) (k n : ℕ) (es : List Entry) → AllByRecursion Plain es → Fills xs k n es → Found es (all_entries xs k n)
 fills_found xs k zero es all e = (tt, e)
 fills_found xs k (suc n) es all f =
     let ps = entries k 2 (body (block xs k)) in
     let qs = all_entries xs (suc k) n in
-    let parts = all_parts Plain f.0 f.1 (subst (All Plain) f.2 all) in
+    let parts = all_parts Plain f.0 f.1 (subst (AllByRecursion Plain) f.2 all) in
     let here = lies_found f.0 k 2 (body (block xs k)) parts.0 f.3 in
     let rest = fills_found xs (suc k) n f.1 parts.1 f.4 in
     (All-append Readable ps qs here.0 rest.0, f.2 ∙ ap₂ (λ x y. x ++ y) here.1 rest.1 ∙ sym (map-append entry_of ps qs))

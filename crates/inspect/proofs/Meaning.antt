@@ -1,6 +1,6 @@
 -- A sheet has no fault just where it denotes something, and then it denotes its contents alone. Assumes nothing.
 use Rattle.std.proofs.Common.{◌≡◌, ℕ, ◌-◌, ◌*◌, ◌≤◌, true, List, [], ◌++◌, map, replicate, Some, None, Option, refl, ◌∙◌, subst, ap₂, inl, inr, zero-le, arith}
-use Rattle.std.specs.List.{AllByRecursion as All}
+use Rattle.std.specs.List.{AllByRecursion}
 use Rattle.std.proofs.ByRecursion.{All-weaker}
 use Rattle.inspect.specs.declared.fault.Refusal.{Refusal}
 use Rattle.inspect.specs.declared.head.Asked.{Asked}
@@ -45,7 +45,7 @@ sound_denotes asked xs none =
     }
 
 -- a proper entry is read back from its bytes
-proper_plain : (h : Head) → InRange h → (es : List Entry) → All (Proper h) es → All Plain es
+proper_plain : (h : Head) → InRange h → (es : List Entry) → AllByRecursion (Proper h) es → AllByRecursion Plain es
 proper_plain h range es all =
     All-weaker (Proper h) Plain (λ e p. record { location = omega (arith, p.location, range.locations); tokens = read_code h range.locations e.tokens p.allowed }) es all
 
@@ -55,9 +55,9 @@ denotes_sound asked xs c d =
     let n = blocks xs - 1 in
     let ps = all_entries xs 1 n in
     let range : InRange h = subst (λ g. InRange g) d.says d.fields in
-    let proper : All (Proper h) d.entries = subst (λ g. All (Proper g) d.entries) d.says d.proper in
+    let proper : AllByRecursion (Proper h) d.entries = subst (λ g. AllByRecursion (Proper g) d.entries) d.says d.proper in
     let found = fills_found xs 1 n d.entries (proper_plain h range d.entries proper) d.filled in
-    let stands : Stands h ps = record { readable = found.0; proper = subst (All (Proper h)) found.1 proper; rising = subst Rising found.1 d.rising; few = subst (λ es. tokens_in es ≤ 4096) found.1 d.tokens } in
+    let stands : Stands h ps = record { readable = found.0; proper = subst (AllByRecursion (Proper h)) found.1 proper; rising = subst Rising found.1 d.rising; few = subst (λ es. tokens_in es ≤ 4096) found.1 d.tokens } in
     let heads : Heads asked (block xs 0) = record { sort = subst (λ g. sort_of (byte (block xs 0) 2) ≡ Some g.sort) d.says d.sort; taken = subst (λ g. takes asked g.sort ≡ true) d.says d.taken; fields = range } in
     let whole : Whole xs = record { long = d.long; some = d.some; few = d.few } in
     let sealed = sealed_pass xs 0 (blocks xs) (λ i l m. d.sealed i (omega arith)) in

@@ -1,6 +1,6 @@
 -- Checks of a block's entries, an entry at a time: what is left decides as all of them did.
 use Rattle.std.proofs.Common.{◌≡◌, ℕ, ◌+◌, ◌≤◌, true, false, ◌⊎◌, List, [], ◌∷◌, ◌++◌, length, take, drop, Ok, Option, ap, ◌∙◌, subst, ⊎_elim, arith, length-drop, length-take, Bor}
-use Rattle.std.specs.List.{AllByRecursion as All}
+use Rattle.std.specs.List.{AllByRecursion}
 use Rattle.std.proofs.lemmas.List.{drop-drop}
 use Rattle.std.proofs.lemmas.Bool.{false≢true}
 use Rattle.inspect.specs.declared.fault.Place.{Place}
@@ -19,7 +19,7 @@ from xs at = drop at (take 510 xs)
 
 -- every entry lies before byte 510
 abbrev pub Fitting : List Placed → Type 0
-Fitting es = All (λ e. e.fits ≡ true) es
+Fitting es = AllByRecursion (λ e. e.fits ≡ true) es
 
 pub from_start : (xs : List ℕ) (l a : ℕ) (ts : List ℕ) (at : ℕ) → at ≤ 510 → begins (from xs at) ≡ an_entry l a ts → at + (3 + length ts) ≤ 510
 from_start xs l a ts at inside is =

@@ -1,7 +1,7 @@
 -- The phases of an inspection: the first fault of each is the sheet's, if those before have none.
 use Rattle.std.proofs.Common.{◌≡◌, ℕ, suc, ◌+◌, ◌-◌, ◌%◌, ◌<◌, ◌≤◌, true, false, eqb, ltb, ◌⊎◌, List, [], ◌∷◌, ◌++◌, length, Some, None, ◌∙◌, ⊎_elim, arith}
 use Rattle.std.proofs.lemmas.Bool.{cond-true, cond-false, and_parts, and_from, and_left, and_right, eq-eqb, ne_eqb, lt-ltb, le-ltb, le-leb, lt-leb}
-use Rattle.std.specs.List.{AllByRecursion as All}
+use Rattle.std.specs.List.{AllByRecursion}
 use Rattle.inspect.specs.declared.fault.Refusal.{Refusal}
 use Rattle.inspect.specs.declared.fault.Layer.TheVariants as layer
 use Rattle.inspect.specs.declared.head.Asked.{Asked}
@@ -14,7 +14,7 @@ use Rattle.inspect.proofs.FirstOf.{all_parts, first_append, first_append_some, f
 use Rattle.inspect.proofs.Passing.{Fitting}
 
 -- entries that are all in place lie before byte 510
-pub in_place_fits : (h : Head) (least total : ℕ) (es : List Placed) → All (λ c. c.holds ≡ true) (entry_checks h least total es) → Fitting es
+pub in_place_fits : (h : Head) (least total : ℕ) (es : List Placed) → AllByRecursion (λ c. c.holds ≡ true) (entry_checks h least total es) → Fitting es
 in_place_fits h least total [] pass = tt
 in_place_fits h least total (e ∷ es) pass = ((and_parts _ _ pass.0).0, in_place_fits h (suc (key e)) (total + length e.tokens) es pass.1.1)
 

@@ -1,6 +1,6 @@
 -- What the checks of an entry's tokens say: each byte stands for a token that is allowed, and the tokens spell a formula. Assumes nothing.
 use Rattle.std.proofs.Common.{◌≡◌, ℕ, suc, ◌≤◌, true, eqb, ltb, List, [], ◌∷◌, map, Some, None, Option, unwrap_or, sym, refl, ap, ap₂, arith}
-use Rattle.std.specs.List.{AllByRecursion as All}
+use Rattle.std.specs.List.{AllByRecursion}
 use Rattle.std.proofs.lemmas.Bool.{false≢true, ltb-true, lt-ltb, eqb-true, and_parts, and_from, cond-true, cond_both}
 use Rattle.formula.specs.declared.token.Token.{Token}
 use Rattle.formula.specs.declared.token.Token.TheVariants.{Location, True, False, And, Or}
@@ -40,7 +40,7 @@ token_code s n Or few h = refl
 
 module _ (h : Head) where
   abbrev pub Allowed : List Token → Type 0
-  Allowed ts = All (λ t. allowed h.sort h.locations t ≡ true) ts
+  Allowed ts = AllByRecursion (λ t. allowed h.sort h.locations t ≡ true) ts
 
   -- the bytes bs stand for tokens that are allowed and that one value is left of, where w values wait
   pub record Read (w : ℕ) (bs : List ℕ) : Type 0 where

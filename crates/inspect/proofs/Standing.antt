@@ -1,7 +1,7 @@
 -- What the checks of entries and tokens say: the entries can be read, are proper, rise, and have few tokens. Assumes nothing.
 use Rattle.std.proofs.Common.{◌≡◌, ℕ, suc, ◌+◌, ◌<◌, ◌≤◌, true, List, [], ◌∷◌, ◌++◌, map, length, inl, inr, ⊎_elim, arith}
 use lib.ListN.{length-map}
-use Rattle.std.specs.List.{AllByRecursion as All}
+use Rattle.std.specs.List.{AllByRecursion}
 use Rattle.std.proofs.lemmas.Bool.{false≢true, ltb-true, lt-ltb, leb-true, le-leb, and_parts, and_from, cases_order}
 use Rattle.formula.specs.Shape.{shaped}
 use Rattle.formula.proofs.Spelling.{spells_shaped, shaped_spells}
@@ -43,8 +43,8 @@ Least least (p ∷ ps) = least ≤ key p
 
 -- what both kinds of checks say of all entries
 pub record Stands (h : Head) (ps : List Placed) : Type 0 where
-  pub readable : All Readable ps
-  pub proper : All (Proper h) (map entry_of ps)
+  pub readable : AllByRecursion Readable ps
+  pub proper : AllByRecursion (Proper h) (map entry_of ps)
   pub rising : Rising (map entry_of ps)
   pub few : tokens_in (map entry_of ps) ≤ 4096
 
@@ -85,7 +85,7 @@ module _ (h : Head) (range : InRange h) where
       let n = total + length p.tokens in
       omega (arith, pass_few (suc (key p)) n ps (leb-true n 4096 c.1.0) c.1.1, length-map p.tokens read)
 
-  pass_proper : (least total : ℕ) (ps : List Placed) → Pass (entry_checks h least total ps) → Pass (token_checks h ps) → All Readable ps × All (Proper h) (map entry_of ps)
+  pass_proper : (least total : ℕ) (ps : List Placed) → Pass (entry_checks h least total ps) → Pass (token_checks h ps) → AllByRecursion Readable ps × AllByRecursion (Proper h) (map entry_of ps)
   pass_proper least total [] c t = (tt, tt)
   pass_proper least total (p ∷ ps) c t =
       let i = in_place_says least p c.0 in
@@ -95,7 +95,7 @@ module _ (h : Head) (range : InRange h) where
       let spelled = shaped_spells (map read p.tokens) r.shaped in
       ((record { fits = i.fits; coded = r.coded }, rest.0), (record { location = i.location; letter = i.letter; formula = spelled; allowed = r.allowed }, rest.1))
 
-  tokens_pass : (ps : List Placed) → All Readable ps → All (Proper h) (map entry_of ps) → Pass (token_checks h ps)
+  tokens_pass : (ps : List Placed) → AllByRecursion Readable ps → AllByRecursion (Proper h) (map entry_of ps) → Pass (token_checks h ps)
   tokens_pass [] all each = tt
   tokens_pass (p ∷ ps) all each =
       let ts = map read p.tokens in
@@ -107,7 +107,7 @@ module _ (h : Head) (range : InRange h) where
   next_rises p [] l r = (tt, tt)
   next_rises p (q ∷ ps) l r = (before_key p q l r.0, r.1)
 
-  entries_pass : (least total : ℕ) (ps : List Placed) → All Readable ps → All (Proper h) (map entry_of ps) → Least least ps → Rising (map entry_of ps) → total + tokens_in (map entry_of ps) ≤ 4096 → Pass (entry_checks h least total ps)
+  entries_pass : (least total : ℕ) (ps : List Placed) → AllByRecursion Readable ps → AllByRecursion (Proper h) (map entry_of ps) → Least least ps → Rising (map entry_of ps) → total + tokens_in (map entry_of ps) ≤ 4096 → Pass (entry_checks h least total ps)
   entries_pass least total [] all each le r few = tt
   entries_pass least total (p ∷ ps) all each le r few =
       let ts = map read p.tokens in

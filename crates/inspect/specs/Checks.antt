@@ -1,6 +1,6 @@
 -- What is asked of a sheet, in the order of phases and places, and its first fault. Assumes nothing.
 use Rattle.std.specs.Prelude.{◌≡◌, ℕ, zero, suc, ◌+◌, ◌-◌, ◌*◌, ◌%◌, Bool, true, false, cond, ◌&&◌, List, [], ◌∷◌, ◌++◌, length, Some, None, Option, ◌==◌, nat_le, nat_lt}
-use Rattle.std.specs.List.{AllByRecursion as All}
+use Rattle.std.specs.List.{AllByRecursion}
 use Rattle.formula.specs.declared.token.Token.{Token}
 use Rattle.formula.specs.declared.token.Token.TheVariants.{Location, True, False, And, Or}
 use Rattle.formula.specs.Tokens.{token}
@@ -119,6 +119,6 @@ pub record FirstFault (asked : Asked) (xs : List ℕ) (r : Refusal) : Type 0 whe
   pub failing : Check
   pub after : List Check
   pub order : checks asked xs ≡ before ++ failing ∷ after
-  pub pass : All (λ c. c.holds ≡ true) before
+  pub pass : AllByRecursion (λ c. c.holds ≡ true) before
   pub fails : failing.holds ≡ false
   pub is : r ≡ failing.refusal

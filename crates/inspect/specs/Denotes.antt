@@ -1,6 +1,6 @@
 -- What a sheet denotes, in the words of the format. Assumes nothing.
 use Rattle.std.specs.Prelude.{◌≡◌, ℕ, zero, suc, ◌+◌, ◌-◌, ◌*◌, ◌<◌, ◌≤◌, true, ◌⊎◌, List, [], ◌∷◌, ◌++◌, map, length, replicate, Some, slice_set}
-use Rattle.std.specs.List.{AllByRecursion as All}
+use Rattle.std.specs.List.{AllByRecursion}
 use Rattle.formula.specs.declared.token.Token.{Token}
 use Rattle.formula.specs.Tokens.{code}
 use Rattle.formula.specs.Formulas.{Formula}
@@ -50,7 +50,7 @@ pub record Proper (h : Head) (e : Entry) : Type 0 where
   pub location : e.location < h.locations
   pub letter : e.letter < h.letters
   pub formula : (f : Formula) × Spells f e.tokens
-  pub allowed : All (λ t. allowed h.sort h.locations t ≡ true) e.tokens
+  pub allowed : AllByRecursion (λ t. allowed h.sort h.locations t ≡ true) e.tokens
 
 abbrev pub tokens_in : List Entry → ℕ
 tokens_in [] = 0
@@ -89,7 +89,7 @@ pub record Denotes (asked : Asked) (xs : List ℕ) (c : Content) : Type 0 where
   pub entries : List Entry
   pub filled : Fills xs 1 (blocks xs - 1) entries
   pub rising : Rising entries
-  pub proper : All (Proper c.head) entries
+  pub proper : AllByRecursion (Proper c.head) entries
   pub tokens : tokens_in entries ≤ 4096
   pub formulas : c.formulas ≡ laid c.head.letters (replicate (c.head.locations * c.head.letters) []) entries
 

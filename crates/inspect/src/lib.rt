@@ -7,7 +7,7 @@ ghost use Rattle.inspect.specs.Inspected.{Inspected};
 pub mod block;
 mod entry;
 pub mod fault;
-mod formula;
+mod formulas;
 pub mod head;
 mod heading;
 pub mod item;
@@ -16,7 +16,7 @@ pub mod items;
 use block::{BLOCK, block_at, check_blocks};
 use entry::check_entries;
 use fault::BlockFault;
-use formula::check_formulas;
+use formulas::check_formulas;
 use head::{Asked, Head};
 use heading::read_head;
 

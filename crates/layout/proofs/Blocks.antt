@@ -1,7 +1,7 @@
 -- Blocks that are joined: each is found again, and states its check, its kind and its number.
 use Rattle.std.proofs.Common.{◌≡◌, ℕ, zero, suc, ◌+◌, ◌*◌, ◌/◌, ◌%◌, ◌<◌, List, [], ◌∷◌, ◌++◌, length, get_or, take, drop, sym, refl, ap, ◌∙◌, ap₂, add-zero, arith, length-append, take_at, get_or-append-add}
 use lib.Seq.{drop-append-add}
-use Rattle.std.specs.List.{AllByRecursion as All}
+use Rattle.std.specs.List.{AllByRecursion}
 use Rattle.inspect.specs.Format.{block, body, kind, weighted}
 use Rattle.inspect.specs.Denotes.{Sealed}
 use Rattle.layout.specs.Written.{sealed}
@@ -37,12 +37,12 @@ module _ (k : ℕ) (p : List ℕ) (fit : Fitting p) where
   pub body_sealed : body (sealed k p) ≡ p
   body_sealed = ap (drop 2) front
 
-pub length_sealed_all : (k : ℕ) (ps : List (List ℕ)) → All Fitting ps → length (sealed_all k ps) ≡ length ps * 512
+pub length_sealed_all : (k : ℕ) (ps : List (List ℕ)) → AllByRecursion Fitting ps → length (sealed_all k ps) ≡ length ps * 512
 length_sealed_all k [] fit = refl
 length_sealed_all k (p ∷ ps) (fit, fits) =
     length-append (sealed k p) (sealed_all (suc k) ps) ∙ omega (arith, length_sealed k p fit, length_sealed_all (suc k) ps fits)
 
-pub block_sealed_all : (k : ℕ) (ps : List (List ℕ)) (i : ℕ) → All Fitting ps → i < length ps → block (sealed_all k ps) i ≡ sealed (k + i) (get_or ps i [])
+pub block_sealed_all : (k : ℕ) (ps : List (List ℕ)) (i : ℕ) → AllByRecursion Fitting ps → i < length ps → block (sealed_all k ps) i ≡ sealed (k + i) (get_or ps i [])
 block_sealed_all k [] i fit h = absurd (omega arith)
 block_sealed_all k (p ∷ ps) zero (fit, fits) h =
     take_at (sealed k p) _ 512 (length_sealed k p fit) ∙ ap (λ j. sealed j p) (sym (add-zero k))

@@ -1,7 +1,7 @@
 -- How entries are packed: the bodies of blocks hold them in order, each within 508 bytes, and are few.
 use Rattle.std.proofs.Common.{◌≡◌, ℕ, suc, ◌+◌, ◌*◌, ◌<◌, ◌≤◌, ltb, List, [], ◌∷◌, ◌++◌, length, get_or, sym, refl, ap, ◌∙◌, subst, inl, inr, append_assoc, append-nil, add-zero, arith, length-append}
 use lib.ListN.{length-map}
-use Rattle.std.specs.List.{flat_map, AllByRecursion as All}
+use Rattle.std.specs.List.{flat_map, AllByRecursion}
 use Rattle.std.proofs.lemmas.List.{flat_map_more}
 use Rattle.std.proofs.lemmas.Bool.{cond_both, ltb-true, ltb-false, leb-true, leb-false}
 use Rattle.formula.specs.Tokens.{code}
@@ -45,7 +45,7 @@ abbrev pub Packs : List (List ℕ) → List Entry → Type 0
 Packs [] es = es ≡ []
 Packs (b ∷ bs) es = (front back : List Entry) × (es ≡ front ++ back) × (b ≡ bytes_of front) × (length b ≤ 508) × Packs bs back
 
-packed_packs : (b : List ℕ) (front es : List Entry) → b ≡ bytes_of front → length b ≤ 508 → All Small es → Packs (packed b es) (front ++ es)
+packed_packs : (b : List ℕ) (front es : List Entry) → b ≡ bytes_of front → length b ≤ 508 → AllByRecursion Small es → Packs (packed b es) (front ++ es)
 packed_packs b front [] e h small = (front, [], refl, e, h, refl)
 packed_packs b front (f ∷ es) e h (small, smalls) =
     cond_both (fits b f) _ _ (λ bs. Packs bs (front ++ f ∷ es))
@@ -55,12 +55,12 @@ packed_packs b front (f ∷ es) e h (small, smalls) =
     (simp length-append (leb-true _ 508 t)) smalls))
     (λ _. (front, f ∷ es, refl, e, h, packed_packs (entry_bytes f) (f ∷ []) es (sym (append-nil (entry_bytes f))) (omega (arith, length_entry f)) smalls))
 
-pub bodies_pack : (es : List Entry) → All Small es → Packs (bodies es) es
+pub bodies_pack : (es : List Entry) → AllByRecursion Small es → Packs (bodies es) es
 bodies_pack [] small = refl
 bodies_pack (e ∷ es) (small, smalls) =
     packed_packs (entry_bytes e) (e ∷ []) es (sym (append-nil (entry_bytes e))) (omega (arith, length_entry e)) smalls
 
-pub packs_within : (bs : List (List ℕ)) (es : List Entry) → Packs bs es → All (λ b. length b ≤ 508) bs
+pub packs_within : (bs : List (List ℕ)) (es : List Entry) → Packs bs es → AllByRecursion (λ b. length b ≤ 508) bs
 packs_within [] es p = tt
 packs_within (b ∷ bs) es p = (p.4, packs_within bs p.1 p.5)
 
@@ -73,14 +73,14 @@ packs_fill xs k (b ∷ bs) es p at =
     (p.0, p.1, p.2, subst (λ bytes. Lies bytes p.0) (sym here) (lies_closed p.0), packs_fill xs (suc k) bs p.1 p.5 next)
 
 -- a body that is closed for want of room has 251 bytes or more
-packed_few : (b : List ℕ) (es : List Entry) → All Small es → 251 * length (packed b es) ≤ 251 + (length b + length (bytes_of es))
+packed_few : (b : List ℕ) (es : List Entry) → AllByRecursion Small es → 251 * length (packed b es) ≤ 251 + (length b + length (bytes_of es))
 packed_few b [] small = omega arith
 packed_few b (f ∷ es) (small, smalls) =
     cond_both (fits b f) _ _ (λ bs. 251 * length bs ≤ 251 + (length b + length (bytes_of (f ∷ es))))
     (λ t. let more = packed_few (b ++ entry_bytes f) es smalls in simp length-append (omega (arith, simp length-append at more)))
     (λ t. let full = leb-false _ 508 t in simp length-append (omega (arith, length_entry f, packed_few (entry_bytes f) es smalls)))
 
-pub bodies_few : (es : List Entry) → All Small es → 251 * length (bodies es) ≤ 251 + (3 * length es + tokens_in es)
+pub bodies_few : (es : List Entry) → AllByRecursion Small es → 251 * length (bodies es) ≤ 251 + (3 * length es + tokens_in es)
 bodies_few [] small = omega arith
 bodies_few (e ∷ es) (small, smalls) =
     omega (arith, packed_few (entry_bytes e) es smalls, length_bytes es, length_entry e)

@@ -1,7 +1,7 @@
 -- A written sheet has at most 64 whole blocks and denotes the content that it was written for.
 use Rattle.std.proofs.Common.{◌≡◌, ℕ, suc, ◌+◌, ◌*◌, ◌<◌, ◌≤◌, true, List, [], ◌∷◌, ◌++◌, map, length, get_or, replicate, sym, refl, ap, ◌∙◌, subst, zero-add, one-add, arith}
 use lib.ListN.{length-map}
-use Rattle.std.specs.List.{AllByRecursion as All}
+use Rattle.std.specs.List.{AllByRecursion}
 use Rattle.std.proofs.lemmas.Nat.{mul-le}
 use Rattle.std.proofs.ByRecursion.{All-map, All-weaker, All-get_or}
 use Rattle.std.proofs.lemmas.List.{get_or-map}
@@ -27,13 +27,13 @@ unfolding written
 written_all c = ap (λ xs. sealed 0 (head_payload c.head) ++ xs) (sealed_from_all 1 (bodies (entries_of c)))
 
 module _ (c : Content) (valid : Valid c) where
-  good : All (λ e. Proper c.head e × Small e) (entries_of c)
+  good : AllByRecursion (λ e. Proper c.head e × Small e) (entries_of c)
   good = good_entries c.head valid.fields.some_letter 0 c.formulas (zero-add _ ∙ valid.long) valid.formulas
 
-  pub small : All Small (entries_of c)
+  pub small : AllByRecursion Small (entries_of c)
   small = All-weaker _ Small (λ e g. g.1) (entries_of c) good
 
-  fitting : All Fitting (payloads c)
+  fitting : AllByRecursion Fitting (payloads c)
   fitting = (
     length_head_payload c.head,
     All-map Fitting closed (bodies (entries_of c)) (All-weaker _ _ length_closed _ (packs_within _ (entries_of c) (bodies_pack (entries_of c) small))),

@@ -1,6 +1,6 @@
 -- What stands in a sheet goes on standing as blocks are ended and entries are laid, until the sheet is written.
 use Rattle.std.proofs.Common.{◌≡◌, ℕ, suc, ◌+◌, ◌-◌, ◌*◌, ◌%◌, ◌<◌, ◌≤◌, Bool, true, false, cond, ltb, leb, List, [], ◌∷◌, ◌++◌, length, take, drop, sym, refl, ap, ◌∙◌, subst, ap₂, append_assoc, append-nil, add-one, arith, length-append, take_at, drop_at}
-use Rattle.std.specs.List.{AllByRecursion as All}
+use Rattle.std.specs.List.{AllByRecursion}
 use Rattle.std.proofs.lemmas.List.{take-take}
 use Rattle.std.proofs.lemmas.Bool.{cond_both, cond-true, cond-false, ltb-true, ltb-false, leb-true, leb-false, le-leb, lt-leb, le-ltb}
 use Rattle.inspect.specs.Format.{block, check_of, kind, weighted}
@@ -31,10 +31,10 @@ closed_is body = at (ltb (length body) 508)
     at true = refl
     at false = sym (append-nil body)
 
-packed_within : (body : List ℕ) (es : List Entry) → length body ≤ 508 → All Small es → All (λ b. length b ≤ 508) (packed body es)
+packed_within : (body : List ℕ) (es : List Entry) → length body ≤ 508 → AllByRecursion Small es → AllByRecursion (λ b. length b ≤ 508) (packed body es)
 packed_within body [] h small = (h, tt)
 packed_within body (e ∷ es) h (small, smalls) =
-    cond_both (fits body e) _ _ (All (λ b. length b ≤ 508))
+    cond_both (fits body e) _ _ (AllByRecursion (λ b. length b ≤ 508))
     (λ t. packed_within (body ++ entry_bytes e) es (simp length-append (leb-true _ 508 t)) smalls)
     (λ _. (h, packed_within (entry_bytes e) es (omega (arith, length_entry e)) smalls))
 
@@ -43,7 +43,7 @@ packed_some body [] = omega arith
 packed_some body (e ∷ es) =
     cond_both (fits body e) _ _ (λ bs. 0 < length bs) (λ _. packed_some (body ++ entry_bytes e) es) (λ _. omega arith)
 
-length_sealed_from : (k : ℕ) (bs : List (List ℕ)) → All (λ b. length b ≤ 508) bs → length (sealed_from k bs) ≡ length bs * 512
+length_sealed_from : (k : ℕ) (bs : List (List ℕ)) → AllByRecursion (λ b. length b ≤ 508) bs → length (sealed_from k bs) ≡ length bs * 512
 length_sealed_from k [] h = refl
 length_sealed_from k (b ∷ bs) (h, hs) =
     length-append (sealed k (closed b)) (sealed_from (suc k) bs)

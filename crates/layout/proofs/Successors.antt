@@ -2,7 +2,7 @@
 use Rattle.std.proofs.Common.{◌≡◌, ℕ, ◌^◌, ◌<◌, ◌≤◌, Bool, true, not, ltb, List, [], ◌∷◌, map, length, sym, refl, ap, ◌∙◌, ap₂, arith}
 use mathlib.Core.List.{map-map}
 use lib.ListN.{length-map}
-use Rattle.std.specs.List.{range_with_len, AllByRecursion as All}
+use Rattle.std.specs.List.{range_with_len, AllByRecursion}
 use Rattle.std.proofs.lemmas.List.FromFn.{length-range_with_len}
 use Rattle.std.proofs.ByRecursion.{All-map, All-weaker, All-get_or, All-from_get_or}
 use Rattle.std.proofs.lemmas.List.Filters.{length-filter_both}
@@ -63,16 +63,16 @@ module _ (h : Head) where
   proper_named : (ts : List Token) → proper h ts ≡ true → ltb (named ts) (2 ^ h.locations) ≡ true
   proper_named ts good = lt-ltb _ _ (named_below h.locations ts (below ts good))
     where
-      below : (ts : List Token) → proper h ts ≡ true → All (λ t. Below h.locations t) ts
+      below : (ts : List Token) → proper h ts ≡ true → AllByRecursion (λ t. Below h.locations t) ts
       below [] good = tt
       below (t ∷ ts) good =
           let all = (decides_every (allowed h.sort h.locations) (t ∷ ts)).0 (and_parts _ _ (and_parts _ _ good).1).0 in
           All-weaker _ _ (allowed_below h.sort h.locations) (t ∷ ts) all
 
-pub every_map : {X Y : Type 0} (test : Y → Bool) (f : X → Y) (xs : List X) → All (λ x. test (f x) ≡ true) xs → every test (map f xs) ≡ true
+pub every_map : {X Y : Type 0} (test : Y → Bool) (f : X → Y) (xs : List X) → AllByRecursion (λ x. test (f x) ≡ true) xs → every test (map f xs) ≡ true
 every_map test f xs all = (decides_every test (map f xs)).1 (All-map (λ y. test y ≡ true) f xs all)
 
-all_of : {X : Type 0} (P : X → Type 0) → ((x : X) → P x) → (xs : List X) → All P xs
+all_of : {X : Type 0} (P : X → Type 0) → ((x : X) → P x) → (xs : List X) → AllByRecursion P xs
 all_of P each [] = tt
 all_of P each (x ∷ xs) = (each x, all_of P each xs)
 

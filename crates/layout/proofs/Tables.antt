@@ -1,7 +1,7 @@
 -- The entries of a table rise, are proper, hold its tokens, and give the table back.
 use Rattle.std.proofs.Common.{◌≡◌, ℕ, suc, ◌+◌, ◌*◌, ◌/◌, ◌%◌, ◌<◌, ◌≤◌, Bool, true, List, [], ◌∷◌, ◌++◌, length, replicate, sym, refl, ap, ◌∙◌, inl, inr, ⊎_elim, mul-le-mul_right, suc-mul, zero-add, arith, length-append}
 use lib.Seq.{append_snoc, set_at}
-use Rattle.std.specs.List.{AllByRecursion as All}
+use Rattle.std.specs.List.{AllByRecursion}
 use Rattle.std.proofs.lemmas.Nat.{div-add-mod', div_below, mod_below}
 use Rattle.std.proofs.lemmas.Bool.{and_parts, leb-true, cases_order}
 use Rattle.formula.specs.declared.token.Token.{Token}
@@ -13,7 +13,7 @@ use Rattle.layout.specs.Valid.{every, proper, sizes}
 use Rattle.layout.specs.Written.{entries_from}
 use Rattle.layout.proofs.Packing.{Small}
 
-every_all : {X : Type 0} (test : X → Bool) (xs : List X) → every test xs ≡ true → All (λ x. test x ≡ true) xs
+every_all : {X : Type 0} (test : X → Bool) (xs : List X) → every test xs ≡ true → AllByRecursion (λ x. test x ≡ true) xs
 every_all test [] h = tt
 every_all test (x ∷ xs) h = let parts = and_parts _ _ h in (parts.0, every_all test xs parts.1)
 
@@ -60,7 +60,7 @@ module _ (letters : ℕ) where
     rising q ((t ∷ ts) ∷ table) = rising_after q (suc q) (t ∷ ts) table (omega arith)
 
 module _ (h : Head) (some : 0 < h.letters) where
-  pub good_entries : (q : ℕ) (table : List (List Token)) → q + length table ≡ h.locations * h.letters → every (proper h) table ≡ true → All (λ e. Proper h e × Small e) (entries_from h.letters q table)
+  pub good_entries : (q : ℕ) (table : List (List Token)) → q + length table ≡ h.locations * h.letters → every (proper h) table ≡ true → AllByRecursion (λ e. Proper h e × Small e) (entries_from h.letters q table)
   good_entries q [] e good = tt
   good_entries q ([] ∷ table) e good = good_entries (suc q) table (omega arith) good
   good_entries q ((t ∷ ts) ∷ table) e good =

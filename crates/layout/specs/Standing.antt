@@ -1,6 +1,6 @@
 -- What stands in a sheet that is half written. Assumes nothing.
 use Rattle.std.specs.Prelude.{◌≡◌, ℕ, ◌*◌, ◌/◌, ◌%◌, ◌≤◌, List, [], ◌∷◌, ◌++◌, length, drop, slice_index_or}
-use Rattle.std.specs.List.{AllByRecursion as All}
+use Rattle.std.specs.List.{AllByRecursion}
 use Rattle.formula.specs.declared.token.Token.{Token}
 use Rattle.inspect.specs.Format.{kind}
 use Rattle.inspect.specs.Denotes.{Entry, Content}
@@ -27,6 +27,6 @@ pub record Stands (c : Content) (xs : List ℕ) (cursor : Cursor) (es : List Ent
   pub used : length body ≡ cursor.used
   pub within : cursor.used ≤ 508
   pub rest : past ++ sealed_from cursor.block (packed body es) ≡ written c
-  pub small : All (λ e. length e.tokens ≤ 255) es
+  pub small : AllByRecursion (λ e. length e.tokens ≤ 255) es
   pub few : length (written c) ≤ 64 * 512
   pub room : length (written c) ≤ length xs

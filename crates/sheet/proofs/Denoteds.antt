@@ -1,6 +1,6 @@
 -- A sheet that denotes something: its entries fit, its head is the one of what it denotes, and that can be written again.
 use Rattle.std.proofs.Common.{◌≡◌, ℕ, ◌-◌, ◌<◌, ◌≤◌, true, List, get_or, sym, refl, ap, ◌∙◌, ap₂, arith, w8, Fits}
-use Rattle.std.specs.List.{AllByRecursion as All}
+use Rattle.std.specs.List.{AllByRecursion}
 use Rattle.std.proofs.ByRecursion.{All-from_get_or}
 use Rattle.inspect.specs.declared.head.Head.{Head}
 use Rattle.inspect.specs.declared.head.Sort.{Sort}
@@ -34,7 +34,7 @@ module _ (xs : List ℕ) (h : Head) (d : Denoted xs h) where
 
   pub denoted_valid : ((i : ℕ) → Fits w8 (get_or xs i 0)) → Valid (contents xs)
   denoted_valid bytes =
-      let all : All (λ b. b < 256) xs = All-from_get_or (λ b. b < 256) xs 0 (λ i inside. omega (arith, bytes i)) in
+      let all : AllByRecursion (λ b. b < 256) xs = All-from_get_or (λ b. b < 256) xs 0 (λ i inside. omega (arith, bytes i)) in
       rw (← denoted_is) (denotes_valid d.0 xs d.1 all d.2)
 
 -- a head of this sort, by its fields

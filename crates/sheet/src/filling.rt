@@ -1,6 +1,6 @@
 // A table filled with the entries of a sheet.
 ghost use Rattle.std.specs.Prelude.{◌≡◌, ◌-◌, ◌<◌, ◌≤◌, true, List, ◌++◌, map, take, drop, OnOk};
-ghost use Rattle.std.specs.List.{AllByRecursion as All};
+ghost use Rattle.std.specs.List.{AllByRecursion};
 ghost use Rattle.inspect.specs.Contents.{entry_of};
 ghost use Rattle.inspect.specs.Denotes.{laid};
 ghost use Rattle.inspect.specs.Entries.{Placed, entries, all_entries};
@@ -49,7 +49,7 @@ fn entry_in<'a>(sheet: &'a [u8], place: Place) -> Option<Found<'a>>
 // The entries of block k, which all fit, each in its cell.
 fn fill_block(table: &mut Table, letters: u8, sheet: &[u8], k: u8) -> Result<(), AllocError>
     requires some { 0 < k }
-    requires fits { All (λ e. e.fits ≡ true) (entries k 2 (body (block sheet.now k))) }
+    requires fits { AllByRecursion (λ e. e.fits ≡ true) (entries k 2 (body (block sheet.now k))) }
     ensures { OnOk result ((fs : List Placed) → laid letters (formulas table.old) (map entry_of (entries k 2 (body (block sheet.now k)) ++ fs)) ≡ laid letters (formulas table.new) (map entry_of fs)) }
 {
     let mut at = 2;
@@ -64,7 +64,7 @@ fn fill_block(table: &mut Table, letters: u8, sheet: &[u8], k: u8) -> Result<(),
 // The entries of the whole sheet, which all fit.
 pub(crate) fn fill(table: &mut Table, letters: u8, sheet: &[u8]) -> Result<(), AllocError>
     requires few { blocks sheet.now ≤ 64 }
-    requires fits { All (λ e. e.fits ≡ true) (all_entries sheet.now 1 (blocks sheet.now - 1)) }
+    requires fits { AllByRecursion (λ e. e.fits ≡ true) (all_entries sheet.now 1 (blocks sheet.now - 1)) }
     ensures { OnOk result (formulas table.new ≡ laid letters (formulas table.old) (map entry_of (all_entries sheet.now 1 (blocks sheet.now - 1)))) }
 {
     for k in 1..sheet.len() / BLOCK {

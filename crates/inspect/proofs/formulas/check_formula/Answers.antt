@@ -1,7 +1,7 @@
 use Rattle.std.proofs.Common.{sym, ◌∙◌}
 use Rattle.std.proofs.lemmas.Bool.{cond-true, cond-false, eq-eqb, ne_eqb}
 use Rattle.inspect.proofs.Tokens.{token_unknown, token_crowded, token_next, token_last, next_few}
-use Rattle.inspect.proofs.formula.check_formula.Goals as goal
+use Rattle.inspect.proofs.formulas.check_formula.Goals as goal
 
 pub returns-in_default : goal.returns-in_default
 returns-in_default c =

@@ -5,8 +5,8 @@ use Rattle.inspect.specs.Entries.{begins, an_entry}
 use Rattle.inspect.proofs.Tokens.{formula_passes, formula_fails}
 use Rattle.inspect.specs.Refusals.{place}
 use Rattle.inspect.proofs.Passing.{from, from_start, found_entry, found_end, fits_next, fits_not_past, passed_next, passed_end}
-use Rattle.inspect.proofs.formula.spell.Goals as goal
-use Rattle.inspect.proofs.formula.spell.Goals.{In-Entry}
+use Rattle.inspect.proofs.formulas.spell.Goals as goal
+use Rattle.inspect.proofs.formulas.spell.Goals.{In-Entry}
 
 -- the entry that was found
 found : (c : In-Entry) → (begins (from c.args.block.now c.loop-tokens.at) ≡ an_entry c.in-Entry.location c.in-Entry.letter c.in-Entry.tokens.now) × (length c.in-Entry.tokens.now ≤ 255)

@@ -1,6 +1,6 @@
 // The formulas of a sheet: tokens that the head allows, and one value left.
 ghost use Rattle.std.specs.Prelude.{◌≡◌, ◌+◌, ◌-◌, ◌*◌, ◌≤◌, true, ◌++◌, length};
-ghost use Rattle.std.specs.List.{AllByRecursion as All};
+ghost use Rattle.std.specs.List.{AllByRecursion};
 ghost use Rattle.formula.specs.Tokens.{token};
 ghost use Rattle.inspect.specs.Checks.{formula_checks, token_checks};
 ghost use Rattle.inspect.specs.Entries.{entries, all_entries};
@@ -69,7 +69,7 @@ fn check_formula(head: &Head, place: Place, tokens: &[u8]) -> Result<(), Formula
 
 // The formulas of block k, of which every entry fits.
 fn spell(head: &Head, k: u8, block: &[u8]) -> Result<(), EntryFault>
-    requires { All (λ e. e.fits ≡ true) (entries k 2 (body block.now)) }
+    requires { AllByRecursion (λ e. e.fits ≡ true) (entries k 2 (body block.now)) }
     ensures { Passes entry_refusal (λ fs. token_checks head.now (entries k 2 (body block.now) ++ fs)) (λ _ fs. token_checks head.now fs) result }
 {
     let mut at = 2;
@@ -88,7 +88,7 @@ fn spell(head: &Head, k: u8, block: &[u8]) -> Result<(), EntryFault>
 // The formulas of the whole sheet, of which every entry fits.
 pub(crate) fn check_formulas(head: &Head, sheet: &[u8]) -> Result<(), EntryFault>
     requires few { blocks sheet.now ≤ 64 }
-    requires fits { All (λ e. e.fits ≡ true) (all_entries sheet.now 1 (blocks sheet.now - 1)) }
+    requires fits { AllByRecursion (λ e. e.fits ≡ true) (all_entries sheet.now 1 (blocks sheet.now - 1)) }
     ensures { Judged entry_refusal (token_checks head.now (all_entries sheet.now 1 (blocks sheet.now - 1))) (λ _. Unit {0}) result }
 {
     for k in 1..sheet.len() / BLOCK {

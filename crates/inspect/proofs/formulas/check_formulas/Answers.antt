@@ -2,7 +2,7 @@ use Rattle.std.proofs.Common.{Some, ◌∙◌}
 use Rattle.std.proofs.lemmas.Result.{err_from_is_err_and}
 use Rattle.inspect.specs.Checks.{first, token_checks}
 use Rattle.inspect.proofs.Cuts.{entries_pass, entries_fit}
-use Rattle.inspect.proofs.formula.check_formulas.Goals as goal
+use Rattle.inspect.proofs.formulas.check_formulas.Goals as goal
 
 pub spell-requires : goal.spell-requires
 spell-requires c = (entries_fit c.args.sheet.now _ c.loop-k.k _ c.loop-k-test.true c.block_at.ensures c.loop-k.invariant.0).0

@@ -1,6 +1,6 @@
 use Rattle.std.proofs.Common.{◌≡◌, ◌+◌, ◌≤◌, drop}
 use Rattle.inspect.specs.Checks.{first, formula_checks}
-use Rattle.inspect.proofs.formula.check_formula.Given as goal
+use Rattle.inspect.proofs.formulas.check_formula.Given as goal
 
 abbrev pub invariant-loop-i : goal.invariant-loop-i
 invariant-loop-i l =
