@@ -7,3 +7,6 @@ returns-in_err-more c = IfOk-from_err c.from_residual-in_err-more.result _ c.fro
 
 pub returns : goal.returns
 returns c = omega (arith, c.truncate.ensures.len)
+
+pub loop-init : goal.loop-init
+loop-init c = (omega arith, omega (arith, c.in_ok-bytes.ensures.len))
