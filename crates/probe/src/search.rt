@@ -32,6 +32,50 @@ fn table<T: Copy>(heap: Global, state: T, places: usize) -> Result<Vec<T>, Alloc
     Ok(table)
 }
 
+#[derive(Drop)]
+struct Tables<T> {
+    outer: Vec<T>,
+    inner: Vec<T>,
+    work: Vec<T>,
+}
+
+impl<T: Copy> Tables<T> {
+    fn new(heap: Global, state: T, places: usize) -> Result<Tables<T>, AllocError> {
+        Ok(Tables {
+            outer: table(heap, state, places)?,
+            inner: table(heap, state, places)?,
+            work: table(heap, state, places)?,
+        })
+    }
+}
+
+// An inquiry opened in these tables and run.
+fn begun<G: Graph>(
+    graph: &G,
+    tables: &mut Tables<G::State>,
+    limit: u32,
+) -> anyhow::Result<Inquiry> {
+    let Ok(mut inquiry) = Inquiry::open(
+        graph,
+        &mut tables.outer,
+        &tables.inner,
+        &tables.work,
+        limit,
+    ) else {
+        return Err(anyhow!("not opened"));
+    };
+    let Ok(()) = inquiry.run(
+        graph,
+        &mut tables.outer,
+        &mut tables.inner,
+        &mut tables.work,
+        limit,
+    ) else {
+        return Err(anyhow!("not run"));
+    };
+    Ok(inquiry)
+}
+
 pub fn search<G: Graph>(
     rt: &HostRuntime,
     name: &'static str,
@@ -40,29 +84,31 @@ pub fn search<G: Graph>(
     limit: u32,
 ) -> anyhow::Result<()> {
     let state = graph.start();
-    let mut outer = table(rt.alloc(), state, places)?;
-    let mut inner = table(rt.alloc(), state, places)?;
-    let mut work = table(rt.alloc(), state, places)?;
-    let Ok(mut inquiry) = Inquiry::open(graph, &mut outer, &inner, &work, limit) else {
-        return Err(anyhow!("not opened"));
-    };
-    let Ok(()) = inquiry.run(graph, &mut outer, &mut inner, &mut work, limit) else {
-        return Err(anyhow!("not run"));
-    };
+    let mut tables = Tables::new(rt.alloc(), state, places)?;
+    let mut inquiry = begun(graph, &mut tables, limit)?;
     let report = inquiry.report::<G>();
     print_report(rt, name, report)?;
     let Standing::Full = report.standing else {
         return Ok(());
     };
     let more = places.saturating_add(1);
-    let mut new_outer = table(rt.alloc(), state, more)?;
-    let mut new_inner = table(rt.alloc(), state, more)?;
-    let mut new_work = table(rt.alloc(), state, more)?;
-    let Ok(()) = inquiry.widen::<G>(&outer, &inner, &mut new_outer, &mut new_inner, &new_work)
-    else {
+    let mut longer = Tables::new(rt.alloc(), state, more)?;
+    let Ok(()) = inquiry.widen::<G>(
+        &tables.outer,
+        &tables.inner,
+        &mut longer.outer,
+        &mut longer.inner,
+        &longer.work,
+    ) else {
         return Err(anyhow!("not widened"));
     };
-    let Ok(()) = inquiry.run(graph, &mut new_outer, &mut new_inner, &mut new_work, limit) else {
+    let Ok(()) = inquiry.run(
+        graph,
+        &mut longer.outer,
+        &mut longer.inner,
+        &mut longer.work,
+        limit,
+    ) else {
         return Err(anyhow!("not run again"));
     };
     print_report(rt, name, inquiry.report::<G>())
@@ -89,16 +135,7 @@ pub fn asked(rt: &HostRuntime, bytes: &[u8]) -> anyhow::Result<()> {
 
 // In as many places and under the limit that the bench has. It takes no rules yet.
 pub fn concluded<G: Graph>(rt: &HostRuntime, graph: &G) -> anyhow::Result<()> {
-    let state = graph.start();
-    let mut outer = table(rt.alloc(), state, PLACES)?;
-    let mut inner = table(rt.alloc(), state, PLACES)?;
-    let mut work = table(rt.alloc(), state, PLACES)?;
-    let Ok(mut inquiry) = Inquiry::open(graph, &mut outer, &inner, &work, LIMIT) else {
-        return Err(anyhow!("not opened"));
-    };
-    let Ok(()) = inquiry.run(graph, &mut outer, &mut inner, &mut work, LIMIT) else {
-        return Err(anyhow!("not run"));
-    };
-    let report = inquiry.report::<G>();
+    let mut tables = Tables::new(rt.alloc(), graph.start(), PLACES)?;
+    let report = begun(graph, &mut tables, LIMIT)?.report::<G>();
     print_asked(rt, report.standing, report.round, report.count)
 }
