@@ -15,27 +15,18 @@ pub mod fill;
 pub fn covered<G: Graph>(graph: &G, c: G::State, states: &[G::State]) -> bool
     ensures { result ≡ is_covered (G.means graph.now).below c states.now }
 {
-    for b in states {
-        if graph.below(c, *b) {
-            return true;
-        }
-    }
-    false
+    states.iter().any(|b| graph.below(c, *b))
 }
 
 // Whether each of the states is below one of the others.
 pub fn within<G: Graph>(graph: &G, states: &[G::State], others: &[G::State]) -> bool
     ensures { result ≡ all_covered (G.means graph.now).below states.now others.now }
 {
-    for a in states {
-        if !covered(graph, *a, others) {
-            return false;
-        }
-    }
-    true
+    states.iter().all(|a| covered(graph, *a, others))
 }
 
 // Moves the held states that are not below c to the front, in their order, and tells how many they are.
+// By index, since a state moves within the slice, and a slice has no `retain`.
 fn keep<G: Graph>(graph: &G, table: &mut [G::State], held: usize, c: G::State) -> usize
     requires { held ≤ length table.old }
     ensures few { result ≤ held }
@@ -64,10 +55,7 @@ pub fn add<G: Graph>(graph: &G, table: &mut [G::State], fill: Fill, c: G::State)
 {
     let held = fill.held.min(table.len());
     if covered(graph, c, &table[0..held]) {
-        return Some(Fill {
-            held,
-            changed: fill.changed,
-        });
+        return Some(Fill { held, ..fill });
     }
     let kept = keep(graph, table, held, c);
     if kept == table.len() {

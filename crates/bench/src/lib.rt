@@ -3,34 +3,46 @@
 
 mod conclude;
 
-ghost use Rattle.std.specs.Prelude.{IfOk};
-ghost use Rattle.model_graph.specs.ModelGraph.{model_means};
-ghost use Rattle.bench.specs.Answers.{Answered, Attempted, Read};
-ghost use Rattle.bench.specs.Concludes.{Concludes};
+ghost use Rattle.std.specs.Prelude.{◌≡◌, Some};
+ghost use Rattle.bench.specs.Answers.{answer_of, answer_words, Answered, Read};
 
-use conclude::{PLACES, conclude};
+use conclude::conclude;
 use inquiry::report::Report;
 use inquiry::standing::Standing;
-use inspect::fault::BlockFault;
 use inspect::head::Asked;
 use inspect::inspect;
 use model_graph::ModelGraph;
 use sheet::error::LoadError;
 use sheet::model::Model;
-use std::alloc::{AllocError, Global};
+use std::alloc::Global;
+use std::fmt;
 
-#[derive(Clone, Copy)]
-pub enum Answer {
-    // how the inquiry ended
-    Ran {
-        standing: Standing,
-        round: u32,
-        count: u32,
-    },
-    // the sheet's first fault
-    Refused(BlockFault),
-    // no memory for the model or the tables
-    Memory,
+// How the inquiry ended.
+#[derive(Clone, Copy, PartialEq, Eq, Debug)]
+pub struct Answer {
+    pub standing: Standing,
+    pub round: u32,
+    pub count: u32,
+}
+
+impl From<Report> for Answer {
+    ghost from_gives = { λ report answer. answer ≡ answer_of report };
+
+    fn from(report: Report) -> Answer {
+        Answer {
+            standing: report.standing,
+            round: report.round,
+            count: report.count,
+        }
+    }
+}
+
+impl fmt::Display for Answer {
+    ghost output = { λ answer. Some (answer_words answer) };
+
+    fn fmt<W: fmt::Write>(&self, f: &mut fmt::Formatter<W>) -> fmt::Result {
+        write!(f, "{} {} {}", self.standing, self.round, self.count)
+    }
 }
 
 // The model that the sheet denotes.
@@ -44,35 +56,11 @@ fn read_model(heap: Global, sheet: &[u8]) -> Result<Model, LoadError>
     Ok(model)
 }
 
-fn run_model(heap: Global, model: Model) -> Result<Report, AllocError>
-    ensures { IfOk result (λ report. Concludes (model_means model) report.standing report.round report.count) }
-{
-    let mut outer = vec![in heap; 0u8; PLACES]?;
-    let mut inner = vec![in heap; 0u8; PLACES]?;
-    let mut work = vec![in heap; 0u8; PLACES]?;
-    let graph = ModelGraph { model };
-    Ok(conclude(&graph, &mut outer, &mut inner, &mut work))
-}
-
-fn attempt(heap: Global, sheet: &[u8]) -> Result<Report, LoadError>
-    ensures { Attempted sheet.now result }
-{
-    let model = read_model(heap, sheet)?;
-    let report = run_model(heap, model)?;
-    Ok(report)
-}
-
 // Whether the model that the sheet denotes has an accepting loop, by an inquiry run to its end.
-pub fn ask(heap: Global, sheet: &[u8]) -> Answer
+pub fn ask(heap: Global, sheet: &[u8]) -> Result<Answer, LoadError>
     ensures { Answered sheet.now result }
 {
-    match attempt(heap, sheet) {
-        Ok(report) => Answer::Ran {
-            standing: report.standing,
-            round: report.round,
-            count: report.count,
-        },
-        Err(LoadError::Refused(fault)) => Answer::Refused(fault),
-        Err(LoadError::Memory) => Answer::Memory,
-    }
+    let model = read_model(heap, sheet)?;
+    let report = conclude(heap, &ModelGraph { model })?;
+    Ok(Answer::from(report))
 }

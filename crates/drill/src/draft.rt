@@ -1,31 +1,22 @@
 // Sheets made byte by byte, so that each can have just the fault that is wanted.
-use inspect::block::{BLOCK, block_at, check_sum};
+use inspect::block::{BLOCK, Kind, block_at, check_sum};
 use inspect::fault::Place;
+use inspect::head::Head;
 use std::alloc::{AllocError, Global};
-
-#[derive(Clone, Copy)]
-pub struct Head {
-    pub sort: u8,
-    pub locations: u8,
-    pub letters: u8,
-    pub initial: u8,
-    pub accepting: u32,
-}
 
 #[derive(Drop)]
 pub struct Draft {
-    bytes: Vec<u8>,
-    // the number of the next block of entries
-    next: u8,
+    pub(crate) bytes: Vec<u8>,
 }
 
 pub(crate) fn at(block: u8, byte: u16) -> Place {
     Place { block, byte }
 }
 
-// Writes over the bytes from `start` on.
+// Writes over the bytes from `start` on, and leaves out what would go past the last: `copy_from_slice` asks for a slice of
+// just as many bytes.
 pub(crate) fn put_bytes(bytes: &mut [u8], start: usize, new: &[u8]) {
-    for (to, from) in bytes.iter_mut().skip(start).zip(new.iter()) {
+    for (to, from) in bytes.iter_mut().skip(start).zip(new) {
         *to = *from;
     }
 }
@@ -34,9 +25,9 @@ impl Draft {
     // A head alone.
     pub(crate) fn begin(heap: Global, head: Head) -> Result<Draft, AllocError> {
         let bytes = vec![in heap; 0u8; BLOCK]?;
-        let mut draft = Draft { bytes, next: 1 };
-        let fields = [head.sort, head.locations, head.letters, head.initial];
-        draft.put(at(0, 0), &[1, 0]);
+        let mut draft = Draft { bytes };
+        let fields = [head.sort.into(), head.locations, head.letters, head.initial];
+        draft.put(at(0, 0), &[Kind::Head.into(), 0]);
         draft.put(at(0, 2), &fields);
         draft.put(at(0, 6), &head.accepting.to_le_bytes());
         draft.seal(0);
@@ -45,10 +36,9 @@ impl Draft {
 
     // Adds a block of entries: FF and zeros follow the body where there is room.
     pub(crate) fn add(&mut self, body: &[u8]) -> Result<(), AllocError> {
-        let block = self.next;
-        self.next = block.wrapping_add(1);
+        let block = (self.bytes.len() / BLOCK % 256) as u8;
         self.bytes.extend_from_slice(&[0; BLOCK])?;
-        self.put(at(block, 0), &[2, block]);
+        self.put(at(block, 0), &[Kind::Entries.into(), block]);
         self.put(at(block, 2), body);
         if body.len() < 508 {
             self.put(at(block, 2 + body.len() as u16), &[0xff]);
@@ -73,17 +63,5 @@ impl Draft {
     pub(crate) fn change(&mut self, place: Place, new: &[u8]) {
         self.put(place, new);
         self.seal(place.block);
-    }
-
-    pub(crate) fn cut(&mut self, length: usize) {
-        self.bytes.truncate(length);
-    }
-
-    pub(crate) fn lengthen(&mut self, more: &[u8]) -> Result<(), AllocError> {
-        self.bytes.extend_from_slice(more)
-    }
-
-    pub(crate) fn bytes(&self) -> &[u8] {
-        self.bytes.as_slice()
     }
 }

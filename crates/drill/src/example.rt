@@ -1,12 +1,13 @@
 // A small rule, and its sheet byte by byte.
-use crate::draft::{Draft, Head, put_bytes};
+use crate::draft::{Draft, put_bytes};
 use anyhow::anyhow;
 use inspect::block::BLOCK;
+use inspect::head::{Head, Sort};
 use sheet::automaton::{Automaton, load};
 use std::alloc::{AllocError, Global};
 
 pub const HEAD: Head = Head {
-    sort: 1,
+    sort: Sort::Rule,
     locations: 2,
     letters: 2,
     initial: 0,
@@ -14,17 +15,20 @@ pub const HEAD: Head = Head {
 };
 
 // 0 under 0: 0 and 1; 0 under 1: 1; 1 under 0: 1; 1 under 1: false.
-pub const BODY: [u8; 18] = [
+const BODY: [u8; 18] = [
     0, 0, 3, 0x00, 0x01, 0x42, 0, 1, 1, 0x01, 1, 0, 1, 0x01, 1, 1, 1, 0x41,
 ];
 
-// The head's first bytes, and its check.
-const HEAD_BYTES: [u8; 10] = [1, 0, 1, 2, 2, 0, 2, 0, 0, 0];
-
-const HEAD_CHECK: [u8; 2] = [0x24, 0x00];
-
-// The check of the block of entries.
-const BODY_CHECK: [u8; 2] = [0xac, 0x1c];
+// What stands in the example's sheet from a byte on: the head's first bytes and its check, and of the block of entries
+// its kind and number, its body, its end and its check.
+const PARTS: [(usize, &[u8]); 6] = [
+    (0, &[1, 0, 1, 2, 2, 0, 2, 0, 0, 0]),
+    (510, &[0x24, 0x00]),
+    (512, &[2, 1]),
+    (514, &BODY),
+    (532, &[0xff]),
+    (1022, &[0xac, 0x1c]),
+];
 
 pub(crate) fn example(heap: Global) -> Result<Draft, AllocError> {
     let mut draft = Draft::begin(heap, HEAD)?;
@@ -35,12 +39,9 @@ pub(crate) fn example(heap: Global) -> Result<Draft, AllocError> {
 // The example's sheet, with no help of what makes sheets.
 fn expected(heap: Global) -> Result<Vec<u8>, AllocError> {
     let mut bytes = vec![in heap; 0u8; 2 * BLOCK]?;
-    put_bytes(&mut bytes, 0, &HEAD_BYTES);
-    put_bytes(&mut bytes, 510, &HEAD_CHECK);
-    put_bytes(&mut bytes, 512, &[2, 1]);
-    put_bytes(&mut bytes, 514, &BODY);
-    put_bytes(&mut bytes, 532, &[0xff]);
-    put_bytes(&mut bytes, 1022, &BODY_CHECK);
+    for (start, part) in &PARTS {
+        put_bytes(&mut bytes, *start, part);
+    }
     Ok(bytes)
 }
 
@@ -55,7 +56,7 @@ pub(crate) fn drill_example(rt: &HostRuntime) -> anyhow::Result<()> {
         return Err(anyhow!("the example is not written"));
     };
     out.truncate(length);
-    let verdict = if out.as_slice() == expected.as_slice() {
+    let verdict = if out == expected {
         "as expected"
     } else {
         "not as expected"

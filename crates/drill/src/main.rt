@@ -10,28 +10,30 @@ mod pairs;
 mod report;
 mod tokens;
 
-use blocks::{drill_checks, drill_kinds, drill_lengths};
-use entries::{drill_ends, drill_entries, drill_order};
+use blocks::{CHECKS, KINDS, drill_empty, drill_lengths, drill_low};
+use entries::{ENTRIES, ORDER, drill_ends};
 use example::drill_example;
-use heads::{drill_fields, drill_ignored};
-use pairs::{drill_two_in_blocks, drill_two_in_crowds, drill_two_in_entries};
-use tokens::{drill_crowds, drill_piles, drill_tokens, drill_values};
+use heads::drill_heads;
+use pairs::{TWO_IN_BLOCKS, TWO_IN_ENTRIES, drill_two_in_crowds};
+use report::{tell_changes, tell_sheets};
+use tokens::{CROWDS, TOKENS, VALUES, drill_piles, tell_crowds};
 
 fn drill(rt: &HostRuntime) -> anyhow::Result<()> {
     drill_lengths(rt)?;
-    drill_checks(rt)?;
-    drill_kinds(rt)?;
-    drill_fields(rt)?;
-    drill_ignored(rt)?;
-    drill_entries(rt)?;
+    drill_empty(rt)?;
+    tell_changes(rt, &CHECKS)?;
+    drill_low(rt)?;
+    tell_changes(rt, &KINDS)?;
+    drill_heads(rt)?;
+    tell_sheets(rt, &ENTRIES)?;
     drill_ends(rt)?;
-    drill_order(rt)?;
-    drill_tokens(rt)?;
-    drill_values(rt)?;
+    tell_sheets(rt, &ORDER)?;
+    tell_sheets(rt, &TOKENS)?;
+    tell_sheets(rt, &VALUES)?;
     drill_piles(rt)?;
-    drill_crowds(rt)?;
-    drill_two_in_blocks(rt)?;
-    drill_two_in_entries(rt)?;
+    tell_crowds(rt, &CROWDS)?;
+    tell_changes(rt, &TWO_IN_BLOCKS)?;
+    tell_sheets(rt, &TWO_IN_ENTRIES)?;
     drill_two_in_crowds(rt)?;
     drill_example(rt)
 }

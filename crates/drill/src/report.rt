@@ -1,42 +1,63 @@
 // What becomes of a sheet: a line for each.
-use crate::draft::{Draft, Head};
+use crate::draft::{Draft, at};
+use crate::example::example;
 use anyhow::anyhow;
-use inspect::fault::BlockFault;
+use inspect::head::{Head, Sort};
 use sheet::automaton::{Automaton, load};
 use sheet::error::LoadError;
 
-fn tell_refusal(rt: &HostRuntime, label: &str, fault: BlockFault) -> anyhow::Result<()> {
-    let refusal = fault.refusal();
-    let number = refusal.number;
-    let block = refusal.place.block;
-    let byte = refusal.place.byte;
-    println!(rt; "{label}: refused {number} {block} {byte}")?;
-    Ok(())
-}
+// A label, a head, and the blocks of entries behind it.
+pub type Sheet<'a> = (&'a str, Head, &'a [&'a [u8]]);
 
-fn tell_sort(rt: &HostRuntime, label: &str, sort: &str) -> anyhow::Result<()> {
-    println!(rt; "{label}: read as a {sort}")?;
-    Ok(())
-}
+// A label, the block and the byte of each change to the example with what is put there, and the blocks that are sealed
+// again after that.
+pub type Changes<'a> = (&'a str, &'a [(u8, u16, u8)], &'a [u8]);
 
 // Loads the sheet, and tells what came of it.
 pub(crate) fn tell(rt: &HostRuntime, label: &str, draft: &Draft) -> anyhow::Result<()> {
-    match load(rt.alloc(), draft.bytes()) {
-        Ok(Automaton::Rule(_)) => tell_sort(rt, label, "rule"),
-        Ok(Automaton::Model(_)) => tell_sort(rt, label, "model"),
-        Err(LoadError::Refused(fault)) => tell_refusal(rt, label, fault),
-        Err(LoadError::Memory) => Err(anyhow!("no memory for a sheet")),
+    match load(rt.alloc(), draft.bytes.as_slice()) {
+        Ok(automaton) => {
+            let sort = match automaton {
+                Automaton::Rule(_) => Sort::Rule,
+                Automaton::Model(_) => Sort::Model,
+            };
+            println!(rt; "{label}: read as a {sort}")?;
+        }
+        Err(LoadError::Refused(fault)) => {
+            let refusal = fault.refusal();
+            println!(rt; "{label}: {refusal}")?;
+        }
+        Err(LoadError::Memory) => return Err(anyhow!("no memory for a sheet")),
     }
+    Ok(())
 }
 
-// The same of a head and one block of entries.
-pub(crate) fn tell_body(
-    rt: &HostRuntime,
-    label: &str,
-    head: Head,
-    body: &[u8],
-) -> anyhow::Result<()> {
+pub(crate) fn tell_sheet(rt: &HostRuntime, sheet: Sheet<'_>) -> anyhow::Result<()> {
+    let (label, head, bodies) = sheet;
     let mut draft = Draft::begin(rt.alloc(), head)?;
-    draft.add(body)?;
+    for body in bodies {
+        draft.add(body)?;
+    }
     tell(rt, label, &draft)
+}
+
+pub(crate) fn tell_sheets(rt: &HostRuntime, sheets: &[Sheet<'_>]) -> anyhow::Result<()> {
+    for sheet in sheets {
+        tell_sheet(rt, *sheet)?;
+    }
+    Ok(())
+}
+
+pub(crate) fn tell_changes(rt: &HostRuntime, all: &[Changes<'_>]) -> anyhow::Result<()> {
+    for (label, changes, sealed) in all {
+        let mut draft = example(rt.alloc())?;
+        for (block, byte, new) in *changes {
+            draft.put(at(*block, *byte), &[*new]);
+        }
+        for block in *sealed {
+            draft.seal(*block);
+        }
+        tell(rt, label, &draft)?;
+    }
+    Ok(())
 }

@@ -1,8 +1,9 @@
 -- The tokens of a set's spelling, one by one, by its members: token i stands with member (i + 1) / 2.
-use Rattle.std.proofs.Common.{◌≡◌, ℕ, zero, suc, ◌+◌, ◌-◌, ◌*◌, ◌/◌, ◌%◌, ◌<◌, ◌≤◌, List, [], ◌∷◌, length, get_or, Some, None, refl, ap, ◌∙◌, zero-le, add-one, arith}
+use Rattle.std.proofs.Common.{◌≡◌, ℕ, zero, suc, ◌+◌, ◌-◌, ◌*◌, ◌/◌, ◌%◌, ◌<◌, ◌≤◌, List, [], ◌∷◌, length, get_or, Some, None, refl, ap, ◌∙◌, add-one, arith}
 use native.Mathlib.Numerals.{add-two}
 use Rattle.std.specs.List.{slice_get}
 use Rattle.std.proofs.lemmas.List.{get_or_past}
+use Rattle.std.proofs.lemmas.Option.{slice_get_cases, slice_get_within, get_or_from_slice_get}
 use Rattle.formula.specs.declared.token.Token.TheVariants.{Location, False, Or}
 use Rattle.formula.specs.Unions.{members, ors, listed, spelling}
 use Rattle.formula.proofs.Unions.{length_spelling}
@@ -37,16 +38,11 @@ spelling_even n mask j h = go (members n mask) h
 pub spelling_past : (n mask i : ℕ) → length (spelling n mask) ≤ i → get_or (spelling n mask) i False ≡ False
 spelling_past n mask i h = get_or_past (spelling n mask) i False h
 
--- what a place of a list says of its length
 past_none : (ls : List ℕ) (j : ℕ) → slice_get ls j ≡ None → length ls ≤ j
-past_none [] j h = zero-le
-past_none (l ∷ ls) zero h = absurd (let z : ◌≡◌ {A = ℕ} 0 1 = cc in omega arith)
-past_none (l ∷ ls) (suc j) h = omega (arith, past_none ls j h)
+past_none ls j h = grind (arith, slice_get_cases ls j)
 
 at_some : (ls : List ℕ) (j l : ℕ) → slice_get ls j ≡ Some l → (j < length ls) × (get_or ls j 0 ≡ l)
-at_some [] j l h = absurd (let z : ◌≡◌ {A = ℕ} 0 1 = cc in omega arith)
-at_some (x ∷ ls) zero l h = (omega arith, cc)
-at_some (x ∷ ls) (suc j) l h = let rest = at_some ls j l h in (omega arith, rest.1)
+at_some ls j l h = (slice_get_within ls j l h, get_or_from_slice_get ls j l 0 h)
 
 module _ (n mask i : ℕ) where
   pub token_none : slice_get (members n mask) (i / 2 + i % 2) ≡ None → get_or (spelling n mask) i False ≡ False

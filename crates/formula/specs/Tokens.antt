@@ -1,5 +1,6 @@
 -- Tokens and the bytes that stand for them. Assumes nothing.
-use Rattle.std.specs.Prelude.{ℕ, cond, Some, None, Option, ◌==◌, nat_lt}
+use Rattle.std.specs.Prelude.{◌≡◌, ℕ, cond, Some, None, Option, Result, MatchResult, ◌==◌, nat_lt}
+use Rattle.formula.specs.declared.token.NoToken.{NoToken}
 use Rattle.formula.specs.declared.token.Token.{Token}
 use Rattle.formula.specs.declared.token.Token.TheVariants.{Location, True, False, And, Or}
 
@@ -19,3 +20,7 @@ token b =
     (cond (b == 0x41) (Some False)
     (cond (b == 0x42) (Some And)
     (cond (b == 0x43) (Some Or) None))))
+
+-- the result is the token that the byte stands for, or an error with the byte, which stands for none
+abbrev pub Stands : ℕ → Result Token NoToken → Type 0
+Stands b r = MatchResult r (λ t. token b ≡ Some t) (λ e. (token b ≡ None) × (e.0 ≡ b))

@@ -2,7 +2,7 @@
 ghost use Rattle.std.specs.Prelude.{◌≡◌};
 ghost use Rattle.formula.specs.Machine.{evaluated, step, Values};
 ghost use Rattle.formula.specs.Sets.{has};
-ghost use Rattle.formula.specs.Stack.{values, Waits};
+ghost use Rattle.formula.specs.Stack.{Waits};
 
 use crate::set::contains;
 use crate::stack::Stack;
@@ -23,7 +23,7 @@ pub fn evaluate(tokens: &[Token], set: u32) -> Option<bool>
 
 // The values that wait after one token more.
 fn read(stack: Stack, token: Token, set: u32) -> Option<Stack>
-    ensures { Waits result (λ s. values s.count s.bits) (step (has set) token (values stack.count stack.bits)) }
+    ensures { Waits result (λ s. s) (step (has set) token stack) }
 {
     match token {
         Token::Location(l) => stack.push(contains(set, l)),

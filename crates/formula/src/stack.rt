@@ -1,30 +1,42 @@
-// The values that wait while tokens are read: at most 32, as bits, newest lowest.
-ghost use Rattle.std.specs.Prelude.{◌≡◌, ◌^◌, ◌<◌, ◌≤◌, ◌&&◌, ◌||◌, [], ◌∷◌, Some, MatchOption};
+// The values that wait while tokens are read: at most 32.
+ghost use Rattle.std.specs.Prelude.{◌≡◌, ◌<◌, ◌&&◌, ◌||◌, List, [], ◌∷◌, length, Some, MatchOption, IfSome};
 ghost use Rattle.formula.specs.Machine.{pushed, joined, only};
-ghost use Rattle.formula.specs.Stack.{values, Waits};
+ghost use Rattle.formula.specs.Stack.{Waits};
+
+use std::marker::Model;
 
 // How many values can wait.
 const MOST: u64 = 32;
 
-#[derive(Clone, Copy)]
-// words of their own, so that each stays in a register while tokens are read
+// The values as the low `count` bits, newest lowest, in two words that stay in registers while tokens are read: an array
+// of 32 bools with a count, as an ArrayVec, took 1.4 times as long to evaluate formulas of 63 to 253 tokens.
+#[derive(Drop)]
 pub struct Stack {
     bits: u64,
     count: u64,
-    ghost fits: { bits < 2 ^ count },
-    ghost few: { count ≤ 32 },
+}
+
+impl Model for Stack {
+    ghost use Rattle.std.specs.Prelude.{◌^◌, ◌<◌, ◌≤◌, Bool, List};
+    ghost use Rattle.formula.specs.Stack.{values};
+
+    ghost Value = { List Bool };
+
+    ghost view = { λ s. values s.count s.bits };
+
+    ghost invariant = { λ s. (s.bits < 2 ^ s.count) × (s.count ≤ 32) };
 }
 
 impl Stack {
     pub(crate) fn new() -> Stack
-        ensures { values result.count result.bits ≡ [] }
+        ensures { result ≡ [] }
     {
         Stack { bits: 0, count: 0 }
     }
 
     // One value more, unless 32 wait.
     pub(crate) fn push(self, value: bool) -> Option<Stack>
-        ensures { Waits result (λ s. values s.count s.bits) (pushed value (values self.count self.bits)) }
+        ensures { Waits result (λ s. s) (pushed value self) }
     {
         if self.count < MOST {
             Some(self.put(value))
@@ -35,7 +47,7 @@ impl Stack {
 
     // The two newest values joined by and, if two wait.
     pub(crate) fn and(self) -> Option<Stack>
-        ensures { Waits result (λ s. values s.count s.bits) (joined (λ x y. x && y) (values self.count self.bits)) }
+        ensures { Waits result (λ s. s) (joined (λ x y. x && y) self) }
     {
         let (rest, y) = self.pop()?;
         let (rest, x) = rest.pop()?;
@@ -44,7 +56,7 @@ impl Stack {
 
     // The two newest values joined by or, if two wait.
     pub(crate) fn or(self) -> Option<Stack>
-        ensures { Waits result (λ s. values s.count s.bits) (joined (λ x y. x || y) (values self.count self.bits)) }
+        ensures { Waits result (λ s. s) (joined (λ x y. x || y) self) }
     {
         let (rest, y) = self.pop()?;
         let (rest, x) = rest.pop()?;
@@ -53,7 +65,7 @@ impl Stack {
 
     // The value that waits, if it waits alone.
     pub(crate) fn only(self) -> Option<bool>
-        ensures { result ≡ only (Some (values self.count self.bits)) }
+        ensures { result ≡ only (Some self) }
     {
         if self.count == 1 {
             Some(self.bits == 1)
@@ -64,8 +76,8 @@ impl Stack {
 
     // One value more, for which there is room.
     fn put(self, value: bool) -> Stack
-        requires { self.count < 32 }
-        ensures { values result.count result.bits ≡ value ∷ values self.count self.bits }
+        requires { length self < 32 }
+        ensures { result ≡ value ∷ self }
     {
         Stack {
             bits: self.bits * 2 + u64::from(value),
@@ -75,8 +87,8 @@ impl Stack {
 
     // What waits under the newest value, and that value, if any waits.
     fn pop(self) -> Option<(Stack, bool)>
-        ensures parts { MatchOption result (values self.count self.bits ≡ []) (λ p. values self.count self.bits ≡ p.1 ∷ values p.0.count p.0.bits) }
-        ensures fewer { MatchOption result (self.count ≡ 0) (λ p. p.0.count < self.count) }
+        ensures parts { MatchOption result (self ≡ []) (λ p. self ≡ p.1 ∷ p.0) }
+        ensures room { IfSome result (λ p. length p.0 < 32) }
     {
         if self.count == 0 {
             return None;

@@ -1,6 +1,9 @@
-// The tokens of a formula in postfix order.
+// The tokens of a formula in postfix order, and the bytes that stand for them.
 ghost use Rattle.std.specs.Prelude.{◌≡◌};
-ghost use Rattle.formula.specs.Tokens.{code, token};
+ghost use Rattle.formula.specs.Tokens.{code, Stands};
+
+use std::error::Error;
+use std::fmt;
 
 #[derive(Clone, Copy, PartialEq, Eq, Debug)]
 pub enum Token {
@@ -11,26 +14,32 @@ pub enum Token {
     Or,
 }
 
-impl Token {
-    // The token that a byte stands for, if any.
-    pub fn read(byte: u8) -> Option<Token>
-        ensures { result ≡ token byte }
-    {
+// A byte that stands for no token.
+#[derive(Clone, Copy, PartialEq, Eq, Debug)]
+pub struct NoToken(pub u8);
+
+impl TryFrom<u8> for Token {
+    type Error = NoToken;
+
+    ghost try_from_gives = { Stands };
+
+    fn try_from(byte: u8) -> Result<Token, NoToken> {
         match byte {
-            0x00..=0x1f => Some(Token::Location(byte)),
-            0x40 => Some(Token::True),
-            0x41 => Some(Token::False),
-            0x42 => Some(Token::And),
-            0x43 => Some(Token::Or),
-            _ => None,
+            0x00..=0x1f => Ok(Token::Location(byte)),
+            0x40 => Ok(Token::True),
+            0x41 => Ok(Token::False),
+            0x42 => Ok(Token::And),
+            0x43 => Ok(Token::Or),
+            _ => Err(NoToken(byte)),
         }
     }
+}
 
-    // The byte that stands for this token.
-    pub fn byte(self) -> u8
-        ensures { result ≡ code self }
-    {
-        match self {
+impl From<Token> for u8 {
+    ghost from_gives = { λ t b. b ≡ code t };
+
+    fn from(token: Token) -> u8 {
+        match token {
             Token::Location(l) => l,
             Token::True => 0x40,
             Token::False => 0x41,
@@ -39,3 +48,11 @@ impl Token {
         }
     }
 }
+
+impl fmt::Display for NoToken {
+    fn fmt<W: fmt::Write>(&self, f: &mut fmt::Formatter<W>) -> fmt::Result {
+        write!(f, "no token has byte {}", self.0)
+    }
+}
+
+impl Error for NoToken {}

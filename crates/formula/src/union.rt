@@ -11,11 +11,7 @@ use crate::token::Token;
 pub fn named(tokens: &[Token]) -> u32
     ensures { result ≡ names tokens.now % 2 ^ 32 }
 {
-    let mut set = 0;
-    for token in tokens {
-        set = joined(set, *token);
-    }
-    set
+    tokens.iter().fold(0, |set, token| joined(set, *token))
 }
 
 // How many tokens the rising spelling of a set of the first `locations` locations has.
@@ -51,27 +47,14 @@ fn joined(set: u32, token: Token) -> u32
 fn count(locations: u8, set: u32) -> usize
     ensures { result ≡ length (members locations set) }
 {
-    let mut count = 0;
-    for l in 0..locations {
-        count += usize::from(contains(set, l));
-    }
-    count
+    (0..locations).filter(|l| contains(set, *l)).count()
 }
 
 // Member j of the set, from 0 and rising, among the first `locations` locations, if there are so many.
 fn member(locations: u8, set: u32, j: usize) -> Option<u8>
     ensures { result ≡ slice_get (members locations set) j }
 {
-    let mut before = 0;
-    for l in 0..locations {
-        if contains(set, l) {
-            if before == j {
-                return Some(l);
-            }
-            before += 1;
-        }
-    }
-    None
+    (0..locations).filter(|l| contains(set, *l)).nth(j)
 }
 
 #[cfg(test)]

@@ -14,7 +14,7 @@ use Rattle.inquiry.specs.declared.standing.Standing.{Standing}
 use Rattle.inquiry.specs.declared.standing.Standing.TheVariants.{Running, Possible, Impossible, Full, Spent}
 use Rattle.inquiry.specs.Course.{Course, by_open, by_run, by_widen, before_full, Promise}
 use Rattle.inquiry.specs.Position.{Position, stands, in_places, held_of, opened, brought, gained, ended, limited, after, swept, ran, widened}
-use Rattle.inquiry.specs.Standing.{standing_number, running, going}
+use Rattle.inquiry.specs.Standing.{running, going}
 use Rattle.inquiry.proofs.Longer.{ran_longer, opened_longer}
 use Rattle.inquiry.proofs.Runs.{Counts, running_is, swept_once, ran_none, ran_more, ran_stopped, ran_keeps}
 
@@ -36,23 +36,28 @@ abbrev pub Direct : {S : Type 0} → Meaning S → Position S → Type 0
 Direct m p = ran m p.count (opened m p.limit p.places) ≡ before_full p p.standing
 
 module _ {S : Type 0} (m : Meaning S) (l : Lawful m) where
+  -- the same held states and counts at another standing
+  stands_sound : (v : Standing) (q : Position S) → Sound m q → (v ≡ Possible → Loop m) → (v ≡ Impossible → Loop m → ⊥) → (going v ≡ true → Going m q.round q.sweep q.count) → (v ≡ Spent → (q.count ≡ q.limit) × (q.limit < K m * (K m + 1))) → (v ≡ Full → Crowded m q.places (X m q.round (suc q.sweep))) → Sound m (stands v q)
+  stands_sound v q s possible impossible goes spent crowded = record {
+    possible = possible;
+    impossible = impossible;
+    outer_is = s.outer_is;
+    inner_is = s.inner_is;
+    apart = s.apart;
+    fits = s.fits;
+    room = s.room;
+    counted = s.counted;
+    goes = goes;
+    spent = spent;
+    crowded = crowded;
+  }
+
   -- a running position at the limit is spent below the bound
   limited_sound : (q : Position S) → Sound m q → (running q.standing ≡ true → Going m q.round q.sweep q.count) → Sound m (limited q)
   limited_sound q s g =
       cond_both (running q.standing && eqb q.count q.limit) (stands Spent q) q (Sound m)
-      (λ e. let p = and_parts (running q.standing) (eqb q.count q.limit) e in record {
-        possible = λ z. absurd (omega (arith, ap standing_number z));
-        impossible = λ z. absurd (omega (arith, ap standing_number z));
-        outer_is = s.outer_is;
-        inner_is = s.inner_is;
-        apart = s.apart;
-        fits = s.fits;
-        room = s.room;
-        counted = s.counted;
-        goes = λ z. absurd (both_ways false refl z);
-        spent = λ z. (eqb-true q.count q.limit p.1, omega (arith, eqb-true q.count q.limit p.1, going_below m l q.round q.sweep q.count (g p.0)));
-        crowded = λ z. absurd (omega (arith, ap standing_number z));
-      })
+      (λ e. let p = and_parts (running q.standing) (eqb q.count q.limit) e in
+      stands_sound Spent q s (λ z. cc) (λ z. cc) (λ z. cc) (λ z. (eqb-true q.count q.limit p.1, omega (arith, eqb-true q.count q.limit p.1, going_below m l q.round q.sweep q.count (g p.0)))) (λ z. cc))
       (λ e. s)
 
   module _ (p : Position S) (runs : p.standing ≡ Running) (s : Sound m p) where
@@ -60,26 +65,14 @@ module _ {S : Type 0} (m : Meaning S) (l : Lawful m) where
     g = s.goes (ap going runs)
 
     full_sound : Crowded m p.places (X m p.round (suc p.sweep)) → Sound m (stands Full p)
-    full_sound c = record {
-      possible = λ z. absurd (omega (arith, ap standing_number z));
-      impossible = λ z. absurd (omega (arith, ap standing_number z));
-      outer_is = s.outer_is;
-      inner_is = s.inner_is;
-      apart = s.apart;
-      fits = s.fits;
-      room = s.room;
-      counted = s.counted;
-      goes = λ z. g;
-      spent = λ z. absurd (omega (arith, ap standing_number z));
-      crowded = λ z. c;
-    }
+    full_sound c = stands_sound Full p s (λ z. cc) (λ z. cc) (λ z. g) (λ z. cc) (λ z. c)
 
     gained_sound : (t : Table S) → t.changed ≡ true → Sweeps m p.places p.round p.sweep p.inner t → Sound m (gained p t.held)
     gained_sound t e w =
         let more = going_gained m p.round p.sweep p.count g (w.gains e) in
         record {
-          possible = λ z. absurd (omega (arith, ap standing_number z));
-          impossible = λ z. absurd (omega (arith, ap standing_number z));
+          possible = λ z. cc;
+          impossible = λ z. cc;
           outer_is = s.outer_is;
           inner_is = w.is;
           apart = w.apart;
@@ -87,18 +80,18 @@ module _ {S : Type 0} (m : Meaning S) (l : Lawful m) where
           room = s.room;
           counted = going_sum m p.round (suc p.sweep) (suc p.count) more;
           goes = λ z. more;
-          spent = λ z. absurd (omega (arith, ap standing_number z));
-          crowded = λ z. absurd (omega (arith, ap standing_number z));
+          spent = λ z. cc;
+          crowded = λ z. cc;
         }
 
     ended_sound : (t : Table S) → t.changed ≡ false → Sweeps m p.places p.round p.sweep p.inner t → Sound m (limited (ended m p))
     ended_sound t e w =
         cond_both (covered m.below m.start p.inner) (cond (all_covered m.below p.outer p.inner) Possible Running) Impossible (λ v. Sound m (limited (stands v (ended m p))))
         (λ here. cond_both (all_covered m.below p.outer p.inner) Possible Running (λ v. Sound m (limited (stands v (ended m p))))
-        (λ all. stopped Possible refl (λ z. a_loop m l p.round p.outer p.inner s.outer_is outer here all) (λ z. absurd (omega (arith, ap standing_number z))) (λ z. absurd (omega (arith, ap standing_number z))))
+        (λ all. stopped Possible refl (λ z. a_loop m l p.round p.outer p.inner s.outer_is outer here all) (λ z. cc) (λ z. cc))
         (λ lost. let more = going_round m p.round p.sweep p.count g stays (loses m l p.round p.outer p.inner s.outer_is outer lost) in
-        limited_sound (stands Running (ended m p)) (base Running (λ z. absurd (omega (arith, ap standing_number z))) (λ z. absurd (omega (arith, ap standing_number z))) (λ z. more) (λ z. absurd (omega (arith, ap standing_number z))) (λ z. absurd (omega (arith, ap standing_number z)))) (λ z. more)))
-        (λ gone. stopped Impossible refl (λ z. absurd (omega (arith, ap standing_number z))) (λ z. no_loop m l (suc p.round) p.inner outer gone) (λ z. absurd (omega (arith, ap standing_number z))))
+        limited_sound (stands Running (ended m p)) (base Running (λ z. cc) (λ z. cc) (λ z. more) (λ z. cc) (λ z. cc)) (λ z. more)))
+        (λ gone. stopped Impossible refl (λ z. cc) (λ z. no_loop m l (suc p.round) p.inner outer gone) (λ z. cc))
       where
         stays : Same (X m p.round (suc p.sweep)) (X m p.round p.sweep)
         stays = (w.same e).1
@@ -137,8 +130,8 @@ module _ {S : Type 0} (m : Meaning S) (l : Lawful m) where
     where
       go : (o : Option (Table S)) → Opened m places o → Sound m (record { standing = Running; round = 0; sweep = 0; count = 0; limit = limit; places = places; outer = held_of o; inner = [] })
       go (Some t) w = record {
-        possible = λ z. absurd (omega (arith, ap standing_number z));
-        impossible = λ z. absurd (omega (arith, ap standing_number z));
+        possible = λ z. cc;
+        impossible = λ z. cc;
         outer_is = w.is;
         inner_is = x_empty m l 0;
         apart = tt;
@@ -146,15 +139,15 @@ module _ {S : Type 0} (m : Meaning S) (l : Lawful m) where
         room = room;
         counted = going_sum m 0 0 0 (going_opened m);
         goes = λ z. going_opened m;
-        spent = λ z. absurd (omega (arith, ap standing_number z));
-        crowded = λ z. absurd (omega (arith, ap standing_number z));
+        spent = λ z. cc;
+        crowded = λ z. cc;
       }
       go None w = absurd w
 
   pub widened_sound : (p : Position S) (n : ℕ) → p.standing ≡ Full → p.places < n → Sound m p → Sound m (widened n p)
   widened_sound p n f lt s = record {
-    possible = λ z. absurd (omega (arith, ap standing_number z));
-    impossible = λ z. absurd (omega (arith, ap standing_number z));
+    possible = λ z. cc;
+    impossible = λ z. cc;
     outer_is = s.outer_is;
     inner_is = s.inner_is;
     apart = s.apart;
@@ -162,8 +155,8 @@ module _ {S : Type 0} (m : Meaning S) (l : Lawful m) where
     room = omega (arith, s.room);
     counted = s.counted;
     goes = λ z. s.goes (ap going f);
-    spent = λ z. absurd (omega (arith, ap standing_number z));
-    crowded = λ z. absurd (omega (arith, ap standing_number z));
+    spent = λ z. cc;
+    crowded = λ z. cc;
   }
 
   pub course_sound : (p : Position S) → Course m p → Sound m p
@@ -194,7 +187,7 @@ module _ {S : Type 0} (m : Meaning S) (l : Lawful m) where
   swept_direct p runs d = ⊎_elim (λ f. subst (Direct m) (sym f) (here ∙ sym (stands_is p Running runs))) counts (swept_once m p)
     where
       here : ran m p.count (opened m p.limit p.places) ≡ p
-      here = d ∙ before_is p p.standing (λ z. omega (arith, ap standing_number (sym runs ∙ z)))
+      here = d ∙ before_is p p.standing (λ z. cc)
 
       counts : Counts p (swept m p) → Direct m (swept m p)
       counts c =
@@ -209,7 +202,7 @@ module _ {S : Type 0} (m : Meaning S) (l : Lawful m) where
 
       go : (r : Option (Table S)) → filled m.below p.places (all_tops m) (unchanged []) ≡ r → Opened m p.places r → ran m p.count (opened m p.limit n) ≡ widened n p
       go (Some u) e w =
-          ap (ran m p.count) (opened_longer m n p.limit p.places u (omega arith) e) ∙ ran_longer m n p.count (opened m p.limit p.places) (omega arith) (λ z. omega (arith, ap standing_number (sym (ap (λ q. q.standing) here) ∙ z))) ∙ ap (in_places n) here
+          ap (ran m p.count) (opened_longer m n p.limit p.places u (omega arith) e) ∙ ran_longer m n p.count (opened m p.limit p.places) (omega arith) (λ z. cc (ap (λ q. q.standing) here)) ∙ ap (in_places n) here
       go None e w = absurd w
 
   course_direct : (p : Position S) → Course m p → Direct m p

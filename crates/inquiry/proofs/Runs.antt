@@ -6,7 +6,7 @@ use Rattle.graph.specs.Meaning.{Meaning}
 use Rattle.inquiry.specs.declared.standing.Standing.{Standing}
 use Rattle.inquiry.specs.declared.standing.Standing.TheVariants.{Running, Possible, Impossible, Full, Spent}
 use Rattle.inquiry.specs.Position.{Position, stands, brought, gained, ended, decided, limited, after, swept, ran}
-use Rattle.inquiry.specs.Standing.{standing_number, running, going}
+use Rattle.inquiry.specs.Standing.{running, going}
 
 pub running_is : (s : Standing) → running s ≡ true → s ≡ Running
 running_is Running e = refl
@@ -35,19 +35,19 @@ module _ {S : Type 0} (m : Meaning S) where
   limited_counts : (p q : Position S) → q.count ≡ suc p.count → q.limit ≡ p.limit → q.places ≡ p.places → q.standing ≡ Running → Counts p (limited q)
   limited_counts p q c l n s =
       cond_both (running q.standing && eqb q.count q.limit) (stands Spent q) q (Counts p)
-      (λ e. record { count = c; limit = l; places = n; not_full = λ z. omega (arith, ap standing_number z); bounded = λ lt g. absurd (both_ways false refl g) })
+      (λ e. record { count = c; limit = l; places = n; not_full = λ z. cc; bounded = λ lt g. absurd (both_ways false refl g) })
       (λ e. record {
         count = c;
         limit = l;
         places = n;
-        not_full = λ z. omega (arith, ap standing_number (sym s ∙ z));
+        not_full = λ z. cc;
         bounded = λ lt g. ⊎_elim (λ r. absurd (both_ways (running q.standing) r (ap running s))) (λ r. omega (arith, eqb-false q.count q.limit r)) (and_cases (running q.standing) (eqb q.count q.limit) e);
       })
 
   stopped_counts : (p q : Position S) → q.count ≡ suc p.count → q.limit ≡ p.limit → q.places ≡ p.places → going q.standing ≡ false → Counts p (limited q)
   stopped_counts p q c l n s =
       cond_both (running q.standing && eqb q.count q.limit) (stands Spent q) q (Counts p)
-      (λ e. record { count = c; limit = l; places = n; not_full = λ z. omega (arith, ap standing_number z); bounded = λ lt g. absurd (both_ways false refl g) })
+      (λ e. record { count = c; limit = l; places = n; not_full = λ z. cc; bounded = λ lt g. absurd (both_ways false refl g) })
       (λ e. record { count = c; limit = l; places = n; not_full = λ z. both_ways (going q.standing) s (ap going z); bounded = λ lt g. absurd (both_ways (going q.standing) s g) })
 
   ended_counts : (p : Position S) (s : Standing) → (s ≡ Running) ⊎ (going s ≡ false) → Counts p (limited (stands s (ended m p)))
@@ -90,9 +90,6 @@ module _ {S : Type 0} (m : Meaning S) where
   unfolding ran
   ran_keeps P step zero p h = h
   ran_keeps P step (suc b) p h = cond_both (running p.standing) (ran m b (swept m p)) p P (λ e. ran_keeps P step b (swept m p) (step p e h)) (λ e. h)
-
-  pub ran_bounded : (b : ℕ) (p : Position S) → Bounded p → Bounded (ran m b p)
-  ran_bounded = ran_keeps Bounded (λ p e h. swept_bounded p (h (ap going (running_is p.standing e))))
 
   -- a budget that reaches the limit leaves nothing running
   pub ran_ends : (b : ℕ) (p : Position S) → Bounded p → p.limit ≤ b + p.count → running (ran m b p).standing ≡ false

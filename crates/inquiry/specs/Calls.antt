@@ -20,8 +20,8 @@ run_refusal r outer inner work =
 
 -- of the record, the lengths of the old outer and inner and those of the new outer, inner and work
 abbrev pub widen_refusal : Report → ℕ → ℕ → ℕ → ℕ → ℕ → Option ℕ
-widen_refusal r outer inner new-outer new-inner new-work =
-    cond (outer == r.places && inner == r.places) (cond (full r.standing) (cond (new-inner == new-outer && (new-work == new-outer && (nat_lt r.places new-outer && nat_le new-outer 4096))) None (Some 18)) (Some 17)) (Some 15)
+widen_refusal r outer inner new_outer new_inner new_work =
+    cond (outer == r.places && inner == r.places) (cond (full r.standing) (cond (new_inner == new_outer && (new_work == new_outer && (nat_lt r.places new_outer && nat_le new_outer 4096))) None (Some 18)) (Some 17)) (Some 15)
 
 -- turned down with the refusal of that number and nothing changed, or accepted and done
 abbrev pub Turned : {A : Type 0} → Option ℕ → Result A Refusal → Type 0 → (A → Type 0) → Type 0

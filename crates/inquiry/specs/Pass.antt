@@ -1,9 +1,6 @@
--- Which of the states found a sweep adds. Assumes nothing.
-use Rattle.std.specs.Prelude.{Bool, true}
-use Rattle.graph.specs.Meaning.{Meaning}
-use Rattle.inquiry.specs.declared.sweep.Pass.{Pass}
-use Rattle.inquiry.specs.declared.sweep.Pass.TheVariants.{All as Every, Accepting}
+-- What is known of the test that a sweep asks of each state found. Assumes nothing.
+use Rattle.std.specs.Prelude.{◌≡◌, Bool}
 
-abbrev pub passing : {S : Type 0} → Meaning S → Pass → S → Bool
-passing m Every c = true
-passing m Accepting c = m.accepts c
+-- every answer is that of the test
+abbrev pub Decided : {S : Type 0} → (S → Bool → Type 0) → (S → Bool) → Type 0
+Decided {S} answers test = (c : S) (b : Bool) → answers c b → b ≡ test c

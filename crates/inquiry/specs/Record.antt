@@ -5,8 +5,7 @@ use Rattle.inquiry.specs.declared.report.Report.{Report}
 use Rattle.inquiry.specs.Position.{Position}
 
 abbrev pub reported : Inquiry → Report
-reported i =
-    record { standing = i.standing; round = i.round; sweep = i.sweep; count = i.count; limit = i.limit; places = i.places; outer = i.outer; inner = i.inner }
+reported i = i.report
 
 -- the held states come first in outer and inner; what lies past them is free, and so is work
 abbrev pub position : {S : Type 0} → Report → List S → List S → Position S

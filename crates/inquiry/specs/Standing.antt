@@ -1,5 +1,5 @@
--- The number of each standing in the order in which they are named, and those that may still go on. Assumes nothing.
-use Rattle.std.specs.Prelude.{ℕ, Bool, true, false}
+-- The number of each standing in the order in which they are named, its name, and those that may still go on. Assumes nothing.
+use Rattle.std.specs.Prelude.{ℕ, Bool, true, false, List, codes}
 use Rattle.inquiry.specs.declared.standing.Standing.{Standing}
 use Rattle.inquiry.specs.declared.standing.Standing.TheVariants.{Running, Possible, Impossible, Full, Spent}
 
@@ -9,6 +9,14 @@ standing_number Possible = 1
 standing_number Impossible = 2
 standing_number Full = 3
 standing_number Spent = 4
+
+-- as it is printed
+abbrev pub standing_name : Standing → List ℕ
+standing_name Running = codes "running"
+standing_name Possible = codes "possible"
+standing_name Impossible = codes "impossible"
+standing_name Full = codes "full"
+standing_name Spent = codes "spent"
 
 abbrev pub running : Standing → Bool
 running Running = true

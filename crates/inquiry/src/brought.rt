@@ -1,5 +1,5 @@
 // What a sweep brought, or what new tables bring.
-#[derive(Clone, Copy)]
+#[derive(Clone, Copy, Debug, PartialEq, Eq)]
 pub enum Brought {
     // the sweep found no place
     NoPlace,

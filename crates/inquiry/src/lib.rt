@@ -1,7 +1,6 @@
 // The inquiry: whether a graph has an accepting loop, found by sweeps over lent tables.
 #![tactic(auto)]
 
-mod bring;
 mod brought;
 pub mod record;
 pub mod refusal;

@@ -2,27 +2,22 @@
 ghost use Rattle.std.specs.Prelude.{◌≡◌, ◌<◌, ◌≤◌, true};
 ghost use Rattle.inquiry.specs.Standing.{going as is_going};
 
-use super::standing::Standing;
+use super::report::Report;
 
+mod bring;
 mod calls;
+mod reporting;
 mod turn;
 
 #[derive(Drop)]
 pub struct Inquiry {
-    standing: Standing,
-    round: u32,
-    sweep: u32,
-    count: u32,
-    limit: u32,
-    places: usize,
-    outer: usize,
-    inner: usize,
-    ghost some: { 1 ≤ places },
-    ghost few: { places ≤ 4096 },
-    ghost outer_fits: { outer ≤ places },
-    ghost inner_fits: { inner ≤ places },
-    ghost rounds: { round ≤ count },
-    ghost sweeps: { sweep ≤ count },
+    report: Report,
+    ghost some: { 1 ≤ report.places },
+    ghost few: { report.places ≤ 4096 },
+    ghost outer_fits: { report.outer ≤ report.places },
+    ghost inner_fits: { report.inner ≤ report.places },
+    ghost rounds: { report.round ≤ report.count },
+    ghost sweeps: { report.sweep ≤ report.count },
     // so that one more sweep can be counted
-    ghost left: { is_going standing ≡ true → count < limit },
+    ghost left: { is_going report.standing ≡ true → report.count < report.limit },
 }

@@ -1,37 +1,29 @@
-// Why a call turns its input down.
+// Why a call turns its input down, by number.
 ghost use Rattle.std.specs.Prelude.{◌≡◌};
 ghost use Rattle.inquiry.specs.Refusal.{number as numbered};
 
-#[derive(Clone, Copy)]
+#[derive(Clone, Copy, Debug, PartialEq, Eq)]
 pub enum Refusal {
     // tables unequal, or of no place or more than 4,096
-    Tables,
+    Tables = 12,
     // a limit of 0
-    Limit,
+    Limit = 13,
     // more tops than places
-    Tops,
+    Tops = 14,
     // a table that has not the inquiry's places
-    Places,
+    Places = 15,
     // not running
-    Stopped,
+    Stopped = 16,
     // not full
-    Room,
+    Room = 17,
     // new tables unequal, not longer, or of more than 4,096 places
-    Wider,
+    Wider = 18,
 }
 
 impl Refusal {
     pub fn number(self) -> u8
         ensures { result ≡ numbered self }
     {
-        match self {
-            Refusal::Tables => 12,
-            Refusal::Limit => 13,
-            Refusal::Tops => 14,
-            Refusal::Places => 15,
-            Refusal::Stopped => 16,
-            Refusal::Room => 17,
-            Refusal::Wider => 18,
-        }
+        self as u8
     }
 }

@@ -1,4 +1,3 @@
-pub mod Begins
 pub mod Cuts
 pub mod Fields
 pub mod FirstOf
@@ -11,3 +10,4 @@ pub mod Standing
 pub mod Sums
 pub mod Tokens
 pub mod Walks
+pub mod Yielding

@@ -1,15 +1,13 @@
 -- The phases of an inspection: the first fault of each is the sheet's, if those before have none.
-use Rattle.std.proofs.Common.{◌≡◌, ℕ, suc, ◌+◌, ◌-◌, ◌%◌, ◌<◌, ◌≤◌, true, false, eqb, ltb, ◌⊎◌, List, [], ◌∷◌, ◌++◌, length, Some, None, ◌∙◌, ⊎_elim, arith}
-use Rattle.std.proofs.lemmas.Bool.{cond-true, cond-false, and_parts, and_from, and_left, and_right, eq-eqb, ne_eqb, lt-ltb, le-ltb, le-leb, lt-leb}
+use Rattle.std.proofs.Common.{◌≡◌, ℕ, suc, ◌+◌, ◌-◌, true, List, [], ◌∷◌, ◌++◌, length, Some, None, ◌∙◌}
+use Rattle.std.proofs.lemmas.Bool.{and_parts}
 use Rattle.std.specs.List.{AllByRecursion}
 use Rattle.inspect.specs.declared.fault.Refusal.{Refusal}
-use Rattle.inspect.specs.declared.fault.Layer.TheVariants as layer
 use Rattle.inspect.specs.declared.head.Asked.{Asked}
 use Rattle.inspect.specs.declared.head.Head.{Head}
 use Rattle.inspect.specs.Checks.{Check, length_check, all_block_checks, head_checks, entry_checks, token_checks, checks, first, key}
 use Rattle.inspect.specs.Entries.{Placed, all_entries}
 use Rattle.inspect.specs.Format.{block, blocks, head}
-use Rattle.inspect.specs.Refusals.{place, refused}
 use Rattle.inspect.proofs.FirstOf.{all_parts, first_append, first_append_some, first_none}
 use Rattle.inspect.proofs.Passing.{Fitting}
 
@@ -17,15 +15,6 @@ use Rattle.inspect.proofs.Passing.{Fitting}
 pub in_place_fits : (h : Head) (least total : ℕ) (es : List Placed) → AllByRecursion (λ c. c.holds ≡ true) (entry_checks h least total es) → Fitting es
 in_place_fits h least total [] pass = tt
 in_place_fits h least total (e ∷ es) pass = ((and_parts _ _ pass.0).0, in_place_fits h (suc (key e)) (total + length e.tokens) es pass.1.1)
-
-pub is_whole : (xs : List ℕ) → length xs % 512 ≡ 0 → 1 ≤ blocks xs → blocks xs ≤ 64 → (length_check xs).holds ≡ true
-is_whole xs even some few = and_from _ _ (eq-eqb _ _ even) (and_from _ _ (lt-ltb 0 (blocks xs) some) (le-leb (blocks xs) 64 few))
-
-pub not_whole : (xs : List ℕ) → (length xs % 512 ≡ 0 → ⊥) ⊎ (((length xs % 512 ≡ 0) × (blocks xs < 1)) ⊎ ((length xs % 512 ≡ 0) × (1 ≤ blocks xs) × (64 < blocks xs))) → (length_check xs).holds ≡ false
-not_whole xs why =
-    ⊎_elim (λ odd. and_left _ _ (ne_eqb _ 0 odd))
-    (⊎_elim (λ none. and_right (eqb (length xs % 512) 0) _ (and_left _ _ (le-ltb 0 (blocks xs) (omega (arith, none.1))))) (λ many. and_right (eqb (length xs % 512) 0) _ (and_right (ltb 0 (blocks xs)) _ (lt-leb (blocks xs) 64 many.2))))
-    why
 
 module _ (asked : Asked) (xs : List ℕ) where
   abbrev h : Head
@@ -43,12 +32,12 @@ module _ (asked : Asked) (xs : List ℕ) where
   abbrev blocks_on : List Check
   blocks_on = all_block_checks xs 0 (blocks xs) ++ head_on
 
-  pub wrong_length : (length_check xs).holds ≡ false → first (checks asked xs) ≡ Some (refused layer.Block 1 (place 0 0))
-  wrong_length not = cond-false _ (first blocks_on) _ not
+  pub wrong_length : (r : Refusal) → first (length_check xs ∷ []) ≡ Some r → first (checks asked xs) ≡ Some r
+  wrong_length r e = first_append_some (length_check xs ∷ []) blocks_on r e
 
-  module _ (whole : (length_check xs).holds ≡ true) where
+  module _ (whole : first (length_check xs ∷ []) ≡ None) where
     whole_first : first (checks asked xs) ≡ first blocks_on
-    whole_first = cond-true _ (first blocks_on) _ whole
+    whole_first = first_append (length_check xs ∷ []) blocks_on whole
 
     pub wrong_block : (r : Refusal) → first (all_block_checks xs 0 (blocks xs)) ≡ Some r → first (checks asked xs) ≡ Some r
     wrong_block r e = whole_first ∙ first_append_some (all_block_checks xs 0 (blocks xs)) head_on r e

@@ -1,6 +1,9 @@
 -- The layout of a sheet: blocks of 512 bytes, their check, and what the head block says. Assumes nothing.
-use Rattle.std.specs.Prelude.{ℕ, suc, ◌+◌, ◌*◌, ◌/◌, ◌%◌, ◌^◌, Bool, true, false, cond, List, [], ◌∷◌, length, take, drop, Some, None, Option, ◌==◌, slice_index}
+use Rattle.std.specs.Prelude.{◌≡◌, ℕ, suc, ◌+◌, ◌*◌, ◌/◌, ◌%◌, ◌^◌, Bool, true, false, cond, List, [], ◌∷◌, length, take, drop, codes, Some, None, Option, Result, MatchResult, ◌==◌, slice_index}
 use Rattle.std.specs.Option.{unwrap_or}
+use Rattle.inspect.specs.declared.block.Kind.{Kind}
+use Rattle.inspect.specs.declared.block.Kind.TheVariants as kinds
+use Rattle.inspect.specs.declared.head.NoSort.{NoSort}
 use Rattle.inspect.specs.declared.head.Sort.{Sort}
 use Rattle.inspect.specs.declared.head.Sort.TheVariants as sort
 use Rattle.inspect.specs.declared.head.Asked.{Asked}
@@ -33,6 +36,11 @@ check_stated b = byte b 510 + 256 * byte b 511
 abbrev pub kind : ℕ → ℕ
 kind k = cond (k == 0) 1 2
 
+-- the byte that stands for a kind
+abbrev pub kind_code : Kind → ℕ
+kind_code kinds.Head = 1
+kind_code kinds.Entries = 2
+
 -- what lies between a block's number and its check
 abbrev pub body : List ℕ → List ℕ
 body b = drop 2 (take 510 b)
@@ -43,6 +51,14 @@ sort_of b = cond (b == 1) (Some sort.Rule) (cond (b == 2) (Some sort.Model) None
 abbrev pub sort_code : Sort → ℕ
 sort_code sort.Rule = 1
 sort_code sort.Model = 2
+
+abbrev pub sort_words : Sort → List ℕ
+sort_words sort.Rule = codes "rule"
+sort_words sort.Model = codes "model"
+
+-- the result is the sort that the byte stands for, or an error with the byte, which stands for none
+abbrev pub Stands : ℕ → Result Sort NoSort → Type 0
+Stands b r = MatchResult r (λ s. sort_of b ≡ Some s) (λ e. (sort_of b ≡ None) × (e.0 ≡ b))
 
 abbrev pub takes : Asked → Sort → Bool
 takes asked.Rule sort.Rule = true

@@ -1,9 +1,12 @@
+pub mod Blocks
 pub mod Checks
 pub mod Contents
 pub mod Denotes
 pub mod Entries
+pub mod Faults
 pub mod Format
 pub mod Inspected
 pub mod Items
 pub mod Judged
 pub mod Refusals
+pub mod Yielded

@@ -4,13 +4,15 @@ ghost use Rattle.inspect.specs.Refusals.{formula_refusal, entry_refusal, block_r
 ghost use Rattle.inspect.specs.declared.fault.BlockFault.TheVariants.{Entry as InEntry};
 ghost use Rattle.inspect.specs.declared.fault.EntryFault.TheVariants.{Formula as InFormula};
 
+use std::error::Error;
+
 #[derive(Clone, Copy, PartialEq, Eq, Debug)]
 pub struct Place {
     pub block: u8,
     pub byte: u16,
 }
 
-#[derive(Clone, Copy)]
+#[derive(Clone, Copy, PartialEq, Eq, Debug)]
 pub enum FormulaFault {
     // a byte that stands for no token, a token that the sort does not allow, or a location that the head lacks
     Token(Place),
@@ -18,7 +20,7 @@ pub enum FormulaFault {
     Waiting(Place),
 }
 
-#[derive(Clone, Copy)]
+#[derive(Clone, Copy, PartialEq, Eq, Debug)]
 pub enum EntryFault {
     // location, letter, no tokens, past byte 509, or out of order
     Entry(Place),
@@ -27,7 +29,7 @@ pub enum EntryFault {
     Formula(FormulaFault),
 }
 
-#[derive(Clone, Copy)]
+#[derive(Clone, Copy, PartialEq, Eq, Debug)]
 pub enum BlockFault {
     Length,
     Check(Place),
@@ -36,6 +38,13 @@ pub enum BlockFault {
     Entry(EntryFault),
 }
 
+impl Error for FormulaFault {}
+
+impl Error for EntryFault {}
+
+impl Error for BlockFault {}
+
+// By hand, since a derived `From` has no contract, and clauses name the fault that a `?` makes.
 impl From<FormulaFault> for EntryFault {
     ghost from_gives = { λ f r. r ≡ InFormula f };
 
@@ -44,6 +53,7 @@ impl From<FormulaFault> for EntryFault {
     }
 }
 
+// By hand for the same reason.
 impl From<EntryFault> for BlockFault {
     ghost from_gives = { λ f r. r ≡ InEntry f };
 
@@ -59,7 +69,7 @@ pub enum Layer {
     Formula,
 }
 
-// A fault by its layer, its number and its place.
+// A fault by its layer, its number and its place. The number is the one that the format gives it, and is printed.
 #[derive(Clone, Copy, PartialEq, Eq, Debug)]
 pub struct Refusal {
     pub layer: Layer,
@@ -71,18 +81,14 @@ impl FormulaFault {
     fn refusal(self) -> Refusal
         ensures { result ≡ formula_refusal self }
     {
-        let layer = Layer::Formula;
-        match self {
-            FormulaFault::Token(place) => Refusal {
-                layer,
-                number: 6,
-                place,
-            },
-            FormulaFault::Waiting(place) => Refusal {
-                layer,
-                number: 7,
-                place,
-            },
+        let (number, place) = match self {
+            FormulaFault::Token(place) => (6, place),
+            FormulaFault::Waiting(place) => (7, place),
+        };
+        Refusal {
+            layer: Layer::Formula,
+            number,
+            place,
         }
     }
 }
@@ -91,19 +97,15 @@ impl EntryFault {
     fn refusal(self) -> Refusal
         ensures { result ≡ entry_refusal self }
     {
-        let layer = Layer::Entry;
-        match self {
-            EntryFault::Entry(place) => Refusal {
-                layer,
-                number: 5,
-                place,
-            },
-            EntryFault::Tokens(place) => Refusal {
-                layer,
-                number: 8,
-                place,
-            },
-            EntryFault::Formula(fault) => fault.refusal(),
+        let (number, place) = match self {
+            EntryFault::Entry(place) => (5, place),
+            EntryFault::Tokens(place) => (8, place),
+            EntryFault::Formula(fault) => return fault.refusal(),
+        };
+        Refusal {
+            layer: Layer::Entry,
+            number,
+            place,
         }
     }
 }
@@ -112,29 +114,17 @@ impl BlockFault {
     pub fn refusal(self) -> Refusal
         ensures { result ≡ block_refusal self }
     {
-        let layer = Layer::Block;
-        match self {
-            BlockFault::Length => Refusal {
-                layer,
-                number: 1,
-                place: Place { block: 0, byte: 0 },
-            },
-            BlockFault::Check(place) => Refusal {
-                layer,
-                number: 2,
-                place,
-            },
-            BlockFault::Kind(place) => Refusal {
-                layer,
-                number: 3,
-                place,
-            },
-            BlockFault::Head(place) => Refusal {
-                layer,
-                number: 4,
-                place,
-            },
-            BlockFault::Entry(fault) => fault.refusal(),
+        let (number, place) = match self {
+            BlockFault::Length => (1, Place { block: 0, byte: 0 }),
+            BlockFault::Check(place) => (2, place),
+            BlockFault::Kind(place) => (3, place),
+            BlockFault::Head(place) => (4, place),
+            BlockFault::Entry(fault) => return fault.refusal(),
+        };
+        Refusal {
+            layer: Layer::Block,
+            number,
+            place,
         }
     }
 }

@@ -1,17 +1,20 @@
 // The formulas of a sheet: tokens that the head allows, and one value left.
-ghost use Rattle.std.specs.Prelude.{◌≡◌, ◌+◌, ◌-◌, ◌*◌, ◌≤◌, true, ◌++◌, length};
+ghost use Rattle.std.specs.Prelude.{◌≡◌, ◌+◌, true, ◌++◌};
 ghost use Rattle.std.specs.List.{AllByRecursion};
 ghost use Rattle.formula.specs.Tokens.{token};
+ghost use Rattle.inspect.specs.Blocks.{each_entries};
 ghost use Rattle.inspect.specs.Checks.{formula_checks, token_checks};
-ghost use Rattle.inspect.specs.Entries.{entries, all_entries};
-ghost use Rattle.inspect.specs.Format.{blocks, body};
+ghost use Rattle.inspect.specs.Entries.{entries};
+ghost use Rattle.inspect.specs.Format.{body};
 ghost use Rattle.inspect.specs.Judged.{Judged, Passes, known_token, next_waiting};
 ghost use Rattle.inspect.specs.Refusals.{entry_refusal, formula_refusal};
 
-use crate::block::{BLOCK, block_at};
+use crate::block::BLOCK;
+use crate::blocks::Blocks;
+use crate::entries::Entries;
 use crate::fault::{EntryFault, FormulaFault, Place};
 use crate::head::{Head, Sort};
-use crate::item::{Item, entry_at};
+use crate::placed::PlacedEntry;
 use formula::token::Token;
 
 // How many values may wait.
@@ -21,13 +24,13 @@ const MOST_WAITING: u8 = 32;
 fn known(head: &Head, byte: u8) -> Option<Token>
     ensures { result ≡ known_token head.now.sort head.now.locations (token byte) }
 {
-    let token = Token::read(byte)?;
+    let token = Token::try_from(byte).ok()?;
     let allowed = match (token, head.sort) {
         (Token::Location(l), _) => l < head.locations,
         (Token::True | Token::And, Sort::Model) => false,
         _ => true,
     };
-    if allowed { Some(token) } else { None }
+    allowed.then_some(token)
 }
 
 // How many values wait after a token, if there is room for it.
@@ -42,16 +45,15 @@ fn waits_after(token: Token, waiting: u8) -> Option<u8>
     }
 }
 
-// The tokens of one entry, which begins at this place.
-fn check_formula(head: &Head, place: Place, tokens: &[u8]) -> Result<(), FormulaFault>
-    requires { place.byte + (3 + length tokens.now) ≤ 510 }
-    ensures { Judged formula_refusal (formula_checks head.now place.block place.byte (place.byte + 3) 0 tokens.now) (λ _. Unit {0}) result }
+// The tokens of one entry.
+fn check_formula(head: &Head, entry: &PlacedEntry) -> Result<(), FormulaFault>
+    ensures { Judged formula_refusal (formula_checks head.now entry.now.place.block entry.now.place.byte (entry.now.place.byte + 3) 0 entry.now.tokens.now) (λ _. Unit {0}) result }
 {
     let mut waiting = 0;
-    for (i, b) in tokens.iter().enumerate() {
+    for (i, b) in entry.tokens.iter().enumerate() {
         let at = Place {
-            block: place.block,
-            byte: place.byte + 3 + i as u16,
+            block: entry.place.block,
+            byte: entry.place.byte + 3 + i as u16,
         };
         let Some(token) = known(head, *b) else {
             return Err(FormulaFault::Token(at));
@@ -62,37 +64,29 @@ fn check_formula(head: &Head, place: Place, tokens: &[u8]) -> Result<(), Formula
         waiting = next;
     }
     if waiting != 1 {
-        return Err(FormulaFault::Waiting(place));
+        return Err(FormulaFault::Waiting(entry.place));
     }
     Ok(())
 }
 
 // The formulas of block k, of which every entry fits.
-fn spell(head: &Head, k: u8, block: &[u8]) -> Result<(), EntryFault>
+fn spell(head: &Head, k: u8, block: &[u8; BLOCK]) -> Result<(), EntryFault>
     requires { AllByRecursion (λ e. e.fits ≡ true) (entries k 2 (body block.now)) }
     ensures { Passes entry_refusal (λ fs. token_checks head.now (entries k 2 (body block.now) ++ fs)) (λ _ fs. token_checks head.now fs) result }
 {
-    let mut at = 2;
-    loop {
-        let place = Place { block: k, byte: at };
-        match entry_at(block, place)? {
-            Item::Entry { tokens, .. } => {
-                check_formula(head, place, tokens)?;
-                at += 3 + tokens.len() as u16;
-            }
-            Item::Head(_) | Item::End => return Ok(()),
-        }
+    for entry in Entries::of(k, block) {
+        check_formula(head, &entry?)?;
     }
+    Ok(())
 }
 
 // The formulas of the whole sheet, of which every entry fits.
-pub(crate) fn check_formulas(head: &Head, sheet: &[u8]) -> Result<(), EntryFault>
-    requires few { blocks sheet.now ≤ 64 }
-    requires fits { AllByRecursion (λ e. e.fits ≡ true) (all_entries sheet.now 1 (blocks sheet.now - 1)) }
-    ensures { Judged entry_refusal (token_checks head.now (all_entries sheet.now 1 (blocks sheet.now - 1))) (λ _. Unit {0}) result }
+pub(crate) fn check_formulas(head: &Head, blocks: &Blocks) -> Result<(), EntryFault>
+    requires { AllByRecursion (λ e. e.fits ≡ true) (each_entries 1 blocks.now.entries.now) }
+    ensures { Judged entry_refusal (token_checks head.now (each_entries 1 blocks.now.entries.now)) (λ _. Unit {0}) result }
 {
-    for k in 1..sheet.len() / BLOCK {
-        spell(head, k as u8, block_at(sheet, k as u8))?;
+    for (i, block) in blocks.entries.iter().enumerate() {
+        spell(head, i as u8 + 1, block)?;
     }
     Ok(())
 }

@@ -6,7 +6,7 @@ use crate::block::before_check;
 use crate::fault::{EntryFault, Place};
 use crate::head::Head;
 
-#[derive(Clone, Copy)]
+#[derive(Clone, Copy, PartialEq, Eq, Debug)]
 pub enum Item<'a> {
     Head(Head),
     Entry {
@@ -21,31 +21,25 @@ pub enum Item<'a> {
 fn opened<'a>(rest: &'a [u8], place: Place) -> Result<Item<'a>, EntryFault>
     ensures { ItemAt rest.now place result }
 {
-    if rest.is_empty() || rest[0] == 0xff {
-        return Ok(Item::End);
+    match rest {
+        [] | [0xff, ..] => Ok(Item::End),
+        [location, letter, length, tokens @ ..] if usize::from(*length) <= tokens.len() => Ok(
+            Item::Entry {
+                location: *location,
+                letter: *letter,
+                tokens: &tokens[..usize::from(*length)],
+            },
+        ),
+        _ => Err(EntryFault::Entry(place)),
     }
-    let [location, letter, length, tokens @ ..] = rest else {
-        return Err(EntryFault::Entry(place));
-    };
-    let length = usize::from(*length);
-    if length > tokens.len() {
-        return Err(EntryFault::Entry(place));
-    }
-    Ok(Item::Entry {
-        location: *location,
-        letter: *letter,
-        tokens: &tokens[0..length],
-    })
 }
 
 // What begins at this place of its block.
 pub(crate) fn entry_at<'a>(block: &'a [u8], place: Place) -> Result<Item<'a>, EntryFault>
     ensures { ItemAt (drop place.byte (take 510 block.now)) place result }
 {
-    let bytes = before_check(block);
-    let at = usize::from(place.byte);
-    if at > bytes.len() {
-        return Ok(Item::End);
+    match before_check(block).get(usize::from(place.byte)..) {
+        Some(rest) => opened(rest, place),
+        None => Ok(Item::End),
     }
-    opened(&bytes[at..], place)
 }

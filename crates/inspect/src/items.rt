@@ -11,12 +11,11 @@ use crate::item::{Item, entry_at};
 pub fn item_at<'a>(asked: Asked, sheet: &'a [u8], place: Place) -> Result<Item<'a>, BlockFault>
     ensures { ItemIn asked sheet.now place result }
 {
-    let block = block_at(sheet, place.block);
     if place.block > 0 {
-        return Ok(entry_at(block, place)?);
+        return Ok(entry_at(block_at(sheet, place.block), place)?);
     }
-    if block.len() < BLOCK {
+    let Some(block) = sheet.first_chunk::<BLOCK>() else {
         return Err(BlockFault::Length);
-    }
+    };
     Ok(Item::Head(read_head(asked, block)?))
 }

@@ -5,6 +5,8 @@ ghost use Rattle.inspect.specs.Denotes.{OneVerdict};
 ghost use Rattle.inspect.specs.Inspected.{Inspected};
 
 pub mod block;
+mod blocks;
+pub mod entries;
 mod entry;
 pub mod fault;
 mod formulas;
@@ -12,8 +14,10 @@ pub mod head;
 mod heading;
 pub mod item;
 pub mod items;
+pub mod placed;
+mod words;
 
-use block::{BLOCK, block_at, check_blocks};
+use blocks::Blocks;
 use entry::check_entries;
 use fault::BlockFault;
 use formulas::check_formulas;
@@ -29,13 +33,10 @@ pub fn inspect(asked: Asked, sheet: &[u8]) -> Result<Head, BlockFault>
     ensures answers { Inspected asked sheet.now result }
     ensures one { OneVerdict asked sheet.now }
 {
-    let blocks = sheet.len() / BLOCK;
-    if sheet.len() % BLOCK != 0 || blocks < 1 || blocks > MOST_BLOCKS {
-        return Err(BlockFault::Length);
-    }
-    check_blocks(sheet)?;
-    let head = read_head(asked, block_at(sheet, 0))?;
-    check_entries(&head, sheet)?;
-    check_formulas(&head, sheet)?;
+    let blocks = Blocks::of(sheet)?;
+    blocks.check()?;
+    let head = read_head(asked, blocks.head)?;
+    check_entries(&head, &blocks)?;
+    check_formulas(&head, &blocks)?;
     Ok(head)
 }

@@ -4,7 +4,7 @@ use Rattle.behaviour.specs.Behaviours.{Behaviour, Proper, Makes}
 use Rattle.graph.specs.Meaning.{Meaning}
 use Rattle.graph.specs.Walks.{Loop}
 use Rattle.model_graph.specs.ModelGraph.{model_means}
-use Rattle.sheet.specs.declared.model.Model.{Model}
+use Rattle.sheet.specs.Models.{Model}
 use Rattle.layer.specs.Layers.{layer_means, fitted_model}
 
 -- a walk of two graphs under the same letters, from both starts to a closed walk that meets an accepting state of each

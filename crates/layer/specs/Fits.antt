@@ -1,7 +1,7 @@
 -- What fitting a model answers, and what it leaves. Assumes nothing.
 use Rattle.std.specs.Prelude.{◌≡◌, true, cond, Some, None, Ok, Err, Option, Result}
 use Rattle.graph.specs.Meaning.{Meaning}
-use Rattle.sheet.specs.declared.model.Model.{Model}
+use Rattle.sheet.specs.Models.{Model}
 use Rattle.layer.specs.declared.Layer.{Layer}
 use Rattle.layer.specs.declared.misfit.Misfit.{Misfit}
 use Rattle.layer.specs.declared.misfit.Misfit.TheVariants.{Letters, Counts}

@@ -3,6 +3,8 @@ use Rattle.std.specs.Prelude.{◌≡◌, ℕ, ◌*◌, ◌<◌, ◌≤◌, Bool,
 use Rattle.std.proofs.Common.{inl, inr, sym, ap, subst, ◌∙◌, arith}
 use Rattle.std.specs.List.{range_with_len}
 use Rattle.std.proofs.lemmas.Bool.{and_from, and_parts, cond-true, eqb-true, eq-eqb, leb-true}
+use Rattle.std.proofs.lemmas.Option.{cond_some, none-some}
+use denote.Enum.Bare.{same_true, true_same}
 use Rattle.graph.specs.Lists.{In, products}
 use Rattle.graph.specs.Meaning.{Meaning, Lawful, State}
 use Rattle.graph.proofs.Counting.{in_counting, counting_in, counting_once}
@@ -12,29 +14,29 @@ use Rattle.formula.specs.Sets.{has}
 use Rattle.layout.proofs.Valids.{test_valid}
 use Rattle.model_graph.specs.ModelGraph.{graph_of, model_means, steps}
 use Rattle.model_graph.specs.Laws.{graph_lawful}
-use Rattle.sheet.specs.declared.model.Model.{Model}
-use Rattle.sheet.specs.Models.{model_content}
+use Rattle.sheet.specs.Models.{Model, model_content}
+use Rattle.layer.specs.contracts.layered.Phase.{the_type}
 use Rattle.layer.specs.declared.layered.Layered.{Layered}
 use Rattle.layer.specs.declared.layered.Phase.{Phase}
 use Rattle.layer.specs.declared.layered.Phase.TheVariants.{Above}
 use Rattle.layer.specs.declared.spot.Spot.{Spot}
 use Rattle.layer.specs.Layers.{layered, side, at_side, accepts_in, below_in, unfitted, left, all_states, top_for, held, slot_for, slot_in, fitted, same_letters, few, fits, model_head, laid, layer_means}
 use Rattle.layer.specs.Phases.{same, awaits, phase_after}
-use Rattle.layer.specs.Spots.{spot_at_lem}
-use Rattle.layer.specs.PhasesLemmas.{same_true, same_self, phases, phase_in, phases_once}
-use Rattle.layer.specs.SpotsLemmas.{cond_some, spot_number, spot_in}
+use Rattle.layer.specs.Spots.{spot_at}
+use Rattle.layer.specs.PhasesLemmas.{phases, phase_in, phases_once}
+use Rattle.layer.specs.SpotsLemmas.{spot_number, spot_in}
 
 module _ {S : Type 0} (m : Meaning S) where
   below_parts : (a b : Layered S) → below_in m a b ≡ true → (a.location ≡ b.location) × (a.phase ≡ b.phase) × (m.below a.state b.state ≡ true)
   below_parts a b e =
       let r = and_parts (a.location == b.location) (same a.phase b.phase && m.below a.state b.state) e in
       let q = and_parts (same a.phase b.phase) (m.below a.state b.state) r.1 in
-      (eqb-true a.location b.location r.0, same_true a.phase b.phase q.0, q.1)
+      (eqb-true a.location b.location r.0, same_true the_type tt a.phase b.phase q.0, q.1)
 
   below_from : (a b : Layered S) → a.location ≡ b.location → a.phase ≡ b.phase → m.below a.state b.state ≡ true → below_in m a b ≡ true
   below_from a b p q r =
       and_from (a.location == b.location) (same a.phase b.phase && m.below a.state b.state) (eq-eqb a.location b.location p)
-      (and_from (same a.phase b.phase) (m.below a.state b.state) (subst (λ z. same a.phase z ≡ true) q (same_self a.phase)) r)
+      (and_from (same a.phase b.phase) (m.below a.state b.state) (true_same the_type a.phase b.phase q) r)
 
 module _ {S : Type 0} (m : Meaning S) (l : Lawful m) where
   abbrev only : Layered S
@@ -100,7 +102,7 @@ module _ {S : Type 0} (h : Head) (sets : List ℕ) (m : Meaning S) where
     phase : left h sets m c ≡ b.phase
 
   slot_holds : (x : ℕ) (b : Layered S) (i : ℕ) (c : Layered S) → slot_in h sets m x b i ≡ Some c → Slot x b i c
-  slot_holds x b i c = at_spot (spot_at_lem h.locations m.slots i) refl
+  slot_holds x b i c = at_spot (spot_at h.locations m.slots i) refl
     where
       at_held : (s : Spot) → (s.location < h.locations) × (s.inner < m.slots) → (d : Option S) → m.slot x b.state s.inner ≡ d → held h sets m x b s d ≡ Some c → Slot x b i c
       at_held s lt (Some d) is e =
@@ -115,13 +117,13 @@ module _ {S : Type 0} (h : Head) (sets : List ℕ) (m : Meaning S) where
             holds = is;
             same_state = ap (λ (z : Layered S). z.state) (sym r.1);
             above = subst (λ (z : Layered S). steps h sets x z.location b.location ≡ true) r.1 q.0;
-            phase = subst (λ (z : Layered S). left h sets m z ≡ b.phase) r.1 (same_true (left h sets m a) b.phase q.1);
+            phase = subst (λ (z : Layered S). left h sets m z ≡ b.phase) r.1 (same_true the_type tt (left h sets m a) b.phase q.1);
           }
-      at_held s lt None is e = let z : ◌≡◌ {A = ℕ} 0 1 = cc in absurd (omega arith)
+      at_held s lt None is e = absurd (none-some c e)
 
-      at_spot : (o : Option Spot) → spot_at_lem h.locations m.slots i ≡ o → slot_for h sets m x b o ≡ Some c → Slot x b i c
+      at_spot : (o : Option Spot) → spot_at h.locations m.slots i ≡ o → slot_for h sets m x b o ≡ Some c → Slot x b i c
       at_spot (Some s) is e = at_held s (spot_in h.locations m.slots i s is) (m.slot x b.state s.inner) refl e
-      at_spot None is e = let z : ◌≡◌ {A = ℕ} 0 1 = cc in absurd (omega arith)
+      at_spot None is e = absurd (none-some c e)
 
   holds_slot : (x : ℕ) (b : Layered S) (c : Layered S) (j : ℕ) → j < m.slots → c.location < h.locations → m.slot x b.state j ≡ Some c.state → steps h sets x c.location b.location ≡ true → left h sets m c ≡ b.phase → (i : ℕ) × (i < 2 * h.locations * m.slots) × (slot_in h sets m x b i ≡ Some c)
   holds_slot x b c j lt place is above phase =
@@ -131,7 +133,7 @@ module _ {S : Type 0} (h : Head) (sets : List ℕ) (m : Meaning S) where
         r.1,
         ap (slot_for h sets m x b) r.2
             ∙ ap (held h sets m x b s) is
-            ∙ cond-true (steps h sets x c.location b.location && same (left h sets m c) b.phase) (Some c) None (and_from (steps h sets x c.location b.location) (same (left h sets m c) b.phase) above (subst (λ z. same (left h sets m c) z ≡ true) phase (same_self (left h sets m c)))),
+            ∙ cond-true (steps h sets x c.location b.location && same (left h sets m c) b.phase) (Some c) None (and_from (steps h sets x c.location b.location) (same (left h sets m c) b.phase) above (true_same the_type (left h sets m c) b.phase phase)),
       )
 
 module _ {S : Type 0} (h : Head) (sets : List ℕ) (t : Lawful (graph_of h sets)) (m : Meaning S) (l : Lawful m) (letters : h.letters ≡ m.letters) (tops : 2 * h.locations * m.tops ≤ 65536) (slots : 2 * h.locations * m.slots ≤ 65536) where
@@ -213,7 +215,7 @@ module _ {S : Type 0} (h : Head) (sets : List ℕ) (t : Lawful (graph_of h sets)
         few_slots = slots;
         once = products_once at_side (products side (places h) phases) m.states (λ a c b d e. (λ i. ((e i).location, (e i).phase), ap (λ (z : Layered S). z.state) e)) (products_once side (places h) phases (λ a c b d e. (ap (λ (w : ℕ × Phase). w.0) e, ap (λ (w : ℕ × Phase). w.1) e)) (counting_once 0 h.locations) phases_once) l.once;
         start_state = sided h sets m (layered h.initial Above m.start) t.start_state l.start_state;
-        top_state = λ i _. top_state (spot_at_lem h.locations m.tops i) (λ s e. spot_in h.locations m.tops i s e);
+        top_state = λ i _. top_state (spot_at h.locations m.tops i) (λ s e. spot_in h.locations m.tops i s e);
         slot_state = λ x b i c lt sb _ e. let r = slot_holds h sets m x b i c e in sided h sets m c (in_place c.location r.place) (held_state x b c i lt sb r);
         step_state = λ x a b lt sa s. sided h sets m b (t.step_state x a.location b.location (omega arith) (sides h sets m a sa).0 s.above) (l.step_state x a.state b.state lt (sides h sets m a sa).1 s.below);
         reflexive = λ a s. below_from m a a refl refl (l.reflexive a.state (sides h sets m a s).1);
@@ -227,24 +229,24 @@ module _ {S : Type 0} (h : Head) (sets : List ℕ) (t : Lawful (graph_of h sets)
       }
 
 pub model_lawful : (t : Model) → Lawful (model_means t)
-model_lawful t = graph_lawful (model_head t) (vec_items t.successors) (test_valid (model_content t) t.valid).fields t.sets
+model_lawful t = graph_lawful (model_head t) (vec_items t.cells) (test_valid (model_content t) t.valid).fields t.fits
 
 -- what a model that fits has
 pub record Fitting {S : Type 0} (t : Model) (m : Meaning S) : Type 0 where
-  pub letters : t.letters ≡ m.letters
-  pub tops : 2 * t.locations * m.tops ≤ 65536
-  pub slots : 2 * t.locations * m.slots ≤ 65536
+  pub letters : t.head.letters ≡ m.letters
+  pub tops : 2 * t.head.locations * m.tops ≤ 65536
+  pub slots : 2 * t.head.locations * m.slots ≤ 65536
 
 fits_fitting : {S : Type 0} (t : Model) (m : Meaning S) → fits t m ≡ true → Fitting t m
 fits_fitting t m e =
     let p = and_parts (same_letters t m) (few t m) e in
-    let q = and_parts (nat_le (2 * t.locations * m.tops) 65536) (nat_le (2 * t.locations * m.slots) 65536) p.1 in
-    record { letters = eqb-true t.letters m.letters p.0; tops = leb-true (2 * t.locations * m.tops) 65536 q.0; slots = leb-true (2 * t.locations * m.slots) 65536 q.1 }
+    let q = and_parts (nat_le (2 * t.head.locations * m.tops) 65536) (nat_le (2 * t.head.locations * m.slots) 65536) p.1 in
+    record { letters = eqb-true t.head.letters m.letters p.0; tops = leb-true (2 * t.head.locations * m.tops) 65536 q.0; slots = leb-true (2 * t.head.locations * m.slots) 65536 q.1 }
 
 pub laid_lawful : {S : Type 0} (t : Model) (m : Meaning S) → Lawful m → fits t m ≡ true → Lawful (laid true t m)
 laid_lawful t m l e =
     let f = fits_fitting t m e in
-    fitted_lawful (model_head t) (vec_items t.successors) (model_lawful t) m l f.letters f.tops f.slots
+    fitted_lawful (model_head t) (vec_items t.cells) (model_lawful t) m l f.letters f.tops f.slots
 
 pub layer_lawful : {S : Type 0} (o : Option Model) (m : Meaning S) → Lawful m → Lawful (layer_means o m)
 layer_lawful None m l = unfitted_lawful m l (λ x b i. None)
@@ -252,4 +254,4 @@ layer_lawful (Some t) m l = go (fits t m) refl
   where
     go : (b : Bool) → fits t m ≡ b → Lawful (laid b t m)
     go true e = laid_lawful t m l e
-    go false e = unfitted_lawful m l (slot_in (model_head t) (vec_items t.successors) m)
+    go false e = unfitted_lawful m l (slot_in (model_head t) (vec_items t.cells) m)

@@ -6,14 +6,13 @@ use Rattle.graph.specs.Lists.{products}
 use Rattle.graph.specs.Meaning.{Meaning}
 use Rattle.inspect.specs.declared.head.Head.{Head}
 use Rattle.model_graph.specs.ModelGraph.{steps}
-use Rattle.sheet.specs.declared.model.Model.{Model}
-use Rattle.sheet.specs.Models.{model_content}
+use Rattle.sheet.specs.Models.{Model, model_content}
 use Rattle.layer.specs.declared.layered.Layered.{Layered}
 use Rattle.layer.specs.declared.layered.Phase.{Phase}
 use Rattle.layer.specs.declared.layered.Phase.TheVariants.{Above, Below}
 use Rattle.layer.specs.declared.spot.Spot.{Spot}
 use Rattle.layer.specs.Phases.{same, awaits, phase_after}
-use Rattle.layer.specs.Spots.{spot_at_lem}
+use Rattle.layer.specs.Spots.{spot_at}
 
 abbrev pub layered : {S : Type 0} → ℕ → Phase → S → Layered S
 layered l p s = record { location = l; phase = p; state = s }
@@ -79,7 +78,7 @@ module _ {S : Type 0} (h : Head) (sets : List ℕ) (m : Meaning S) where
   slot_for x b None = None
 
   abbrev pub slot_in : ℕ → Layered S → ℕ → Option (Layered S)
-  slot_in x b i = slot_for x b (spot_at_lem h.locations m.slots i)
+  slot_in x b i = slot_for x b (spot_at h.locations m.slots i)
 
   abbrev pub fitted : Meaning (Layered S)
   fitted =
@@ -91,18 +90,18 @@ module _ {S : Type 0} (h : Head) (sets : List ℕ) (m : Meaning S) where
         below = below_in m;
         step = Moves;
         tops = 2 * h.locations * m.tops;
-        top = λ i. top_for (spot_at_lem h.locations m.tops i);
+        top = λ i. top_for (spot_at h.locations m.tops i);
         slots = 2 * h.locations * m.slots;
         slot = slot_in;
       }
 
 -- the model has the letters below
 abbrev pub same_letters : {S : Type 0} → Model → Meaning S → Bool
-same_letters t m = t.letters == m.letters
+same_letters t m = t.head.letters == m.letters
 
 -- neither count passes 65,536
 abbrev pub few : {S : Type 0} → Model → Meaning S → Bool
-few t m = nat_le (2 * t.locations * m.tops) 65536 && nat_le (2 * t.locations * m.slots) 65536
+few t m = nat_le (2 * t.head.locations * m.tops) 65536 && nat_le (2 * t.head.locations * m.slots) 65536
 
 abbrev pub fits : {S : Type 0} → Model → Meaning S → Bool
 fits t m = same_letters t m && few t m
@@ -111,8 +110,8 @@ abbrev pub model_head : Model → Head
 model_head t = (model_content t).head
 
 abbrev pub laid : {S : Type 0} → Bool → Model → Meaning S → Meaning (Layered S)
-laid true t m = fitted (model_head t) (vec_items t.successors) m
-laid false t m = unfitted m (slot_in (model_head t) (vec_items t.successors) m)
+laid true t m = fitted (model_head t) (vec_items t.cells) m
+laid false t m = unfitted m (slot_in (model_head t) (vec_items t.cells) m)
 
 -- a model that does not fit is laid as none
 abbrev pub layer_means : {S : Type 0} → Option Model → Meaning S → Meaning (Layered S)

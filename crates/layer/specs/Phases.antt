@@ -1,18 +1,17 @@
 -- The phases of a layer, and how a step changes them. Assumes nothing.
-use Rattle.std.specs.Prelude.{Bool, true, false, cond}
+use Rattle.std.specs.Prelude.{Bool, cond}
+use denote.Enum.Bare.{sameb}
+use Rattle.layer.specs.contracts.layered.Phase.{the_type}
 use Rattle.layer.specs.declared.layered.Phase.{Phase}
 use Rattle.layer.specs.declared.layered.Phase.TheVariants.{Above, Below}
 
+-- `==` on phases
 abbrev pub same : Phase → Phase → Bool
-same Above Above = true
-same Above Below = false
-same Below Above = false
-same Below Below = true
+same = sameb the_type
 
 -- whether it is the state below that is waited for
 abbrev pub awaits : Phase → Bool
-awaits Above = false
-awaits Below = true
+awaits p = same p Below
 
 -- the phase after a state is left, by whether its location and its state below accept
 abbrev pub phase_after : Bool → Bool → Phase → Phase

@@ -1,20 +1,12 @@
--- The two phases: when they are the same, and that each is one of two. Assumes nothing.
-use Rattle.std.specs.Prelude.{◌≡◌, ℕ, true, List, [], ◌∷◌, refl}
-use Rattle.std.proofs.Common.{inl, inr, arith}
+-- There are two phases, and they are not the same. Assumes nothing.
+use Rattle.std.specs.Prelude.{◌≡◌, true, List, [], ◌∷◌, refl}
+use Rattle.std.proofs.Common.{inl, inr}
+use denote.Enum.Bare.{same_true, same_false}
 use Rattle.graph.specs.Lists.{In, Distinct}
+use Rattle.layer.specs.contracts.layered.Phase.{the_type}
 use Rattle.layer.specs.declared.layered.Phase.{Phase}
 use Rattle.layer.specs.declared.layered.Phase.TheVariants.{Above, Below}
-use Rattle.layer.specs.Phases.{same, awaits}
-
-pub same_true : (p q : Phase) → same p q ≡ true → p ≡ q
-same_true Above Above e = refl
-same_true Above Below e = let z : ◌≡◌ {A = ℕ} 0 1 = cc in absurd (omega arith)
-same_true Below Above e = let z : ◌≡◌ {A = ℕ} 0 1 = cc in absurd (omega arith)
-same_true Below Below e = refl
-
-pub same_self : (p : Phase) → same p p ≡ true
-same_self Above = refl
-same_self Below = refl
+use Rattle.layer.specs.Phases.{awaits}
 
 abbrev pub phases : List Phase
 phases = Above ∷ Below ∷ []
@@ -24,11 +16,10 @@ phase_in Above = inl refl
 phase_in Below = inr (inl refl)
 
 pub apart : Above ≡ Below → ⊥
-apart e = let z : ◌≡◌ {A = ℕ} 0 1 = cc in omega arith
+apart = same_false the_type Above Below refl
 
 pub phases_once : Distinct phases
 phases_once = (λ i. elim i [ inl e ↦ apart e | inr j ↦ j ], (λ i. i, tt))
 
 pub awaiting : (p : Phase) → awaits p ≡ true → p ≡ Below
-awaiting Above e = let z : ◌≡◌ {A = ℕ} 0 1 = cc in absurd (omega arith)
-awaiting Below e = refl
+awaiting p = same_true the_type tt p Below

@@ -1,25 +1,28 @@
 // Layers over a graph: made without a model, and fitted with one.
-ghost use Rattle.std.specs.Prelude.{◌≡◌, ◌*◌, Some, None, MatchOption, nat_le};
+ghost use Rattle.std.specs.Prelude.{◌≡◌, Some, None, MatchOption};
 ghost use Rattle.layer.specs.Fits.{Fit};
-ghost use Rattle.layer.specs.Layers.{few as few_numbers, fitted_model};
+ghost use Rattle.layer.specs.Layers.{few as few_numbers, fits as fits_over, fitted_model, same_letters};
 
 use crate::Layer;
 use crate::misfit::Misfit;
+use crate::spot::Numbers;
 use graph::Graph;
+use layout::source::Source;
 use sheet::model::Model;
-
-// Whether a count below, for each location and phase, comes to at most 65,536.
-fn small(locations: u8, count: u32) -> bool
-    ensures { result ≡ nat_le (2 * locations * count) 65536 }
-{
-    2 * u64::from(locations) * u64::from(count) <= 65536
-}
 
 // Whether the layer would have few enough tops and slots.
 fn few<G: Graph>(model: &Model, below: &G) -> bool
     ensures { result ≡ few_numbers model.now (G.means below.now) }
 {
-    small(model.locations(), below.tops()) && small(model.locations(), below.slots())
+    Numbers::over(model, below.tops()).count().is_some()
+        && Numbers::over(model, below.slots()).count().is_some()
+}
+
+// Whether the model fits over the graph.
+fn fits<G: Graph>(model: &Model, below: &G) -> bool
+    ensures { result ≡ fits_over model.now (G.means below.now) }
+{
+    model.letters() == below.letters() && few(model, below)
 }
 
 impl<G> Layer<G> {
@@ -50,10 +53,6 @@ impl<G: Graph> Layer<G> {
     pub(crate) fn fitted(&self) -> Option<&Model>
         ensures { MatchOption result (fitted_model self.now.model (G.means self.now.below) ≡ None) (λ t. fitted_model self.now.model (G.means self.now.below) ≡ Some t.now) }
     {
-        match &self.model {
-            Some(model) if model.letters() == self.below.letters() && few(model, &self.below) =>
-                Some(model),
-            _ => None,
-        }
+        self.model.as_ref().filter(|model| fits(model, &self.below))
     }
 }

@@ -11,9 +11,10 @@ pub mod misfit;
 mod spot;
 
 use crate::layered::{Layered, Phase};
-use crate::spot::spot_at;
+use crate::spot::Numbers;
 use formula::set::contains;
 use graph::Graph;
+use layout::source::Source;
 use sheet::model::Model;
 
 // No model until one is fitted.
@@ -35,58 +36,47 @@ impl<G: Graph> Graph for Layer<G> {
     }
 
     fn start(&self) -> Layered<G::State> {
-        let location = match self.fitted() {
-            Some(model) => model.initial(),
-            None => 0,
-        };
         Layered {
-            location,
+            location: self.fitted().map_or(0, |model| model.initial()),
             phase: Phase::Above,
             state: self.below.start(),
         }
     }
 
     fn accepts(&self, a: Layered<G::State>) -> bool {
-        a.phase.awaits_below() && self.below.accepts(a.state)
+        a.phase == Phase::Below && self.below.accepts(a.state)
     }
 
     fn below(&self, a: Layered<G::State>, b: Layered<G::State>) -> bool {
-        a.location == b.location && a.phase.same(b.phase) && self.below.below(a.state, b.state)
+        a.location == b.location && a.phase == b.phase && self.below.below(a.state, b.state)
     }
 
     fn tops(&self) -> u32 {
-        match self.fitted() {
-            Some(model) => 2 * u32::from(model.locations()) * self.below.tops(),
-            None => 1,
-        }
+        self.fitted()
+            .and_then(|model| Numbers::over(model, self.below.tops()).count())
+            .unwrap_or(1)
     }
 
     fn top(&self, i: u32) -> Layered<G::State> {
-        if let Some(model) = self.fitted()
-            && let Some(spot) = spot_at(model.locations(), self.below.tops(), i)
-        {
-            return Layered {
-                location: spot.location,
-                phase: spot.phase,
-                state: self.below.top(spot.inner),
-            };
+        let spot = self
+            .fitted()
+            .and_then(|model| Numbers::over(model, self.below.tops()).spot(i));
+        match spot {
+            Some(spot) => spot.over(self.below.top(spot.inner)),
+            None => self.start(),
         }
-        self.start()
     }
 
     fn slots(&self) -> u32 {
-        match self.fitted() {
-            Some(model) => 2 * u32::from(model.locations()) * self.below.slots(),
-            None => 0,
-        }
+        self.fitted()
+            .and_then(|model| Numbers::over(model, self.below.slots()).count())
+            .unwrap_or(0)
     }
 
     // Where the model does not fit there are no slots, so that is not asked.
     fn slot(&self, letter: u8, b: Layered<G::State>, i: u32) -> Option<Layered<G::State>> {
-        let Some(model) = &self.model else {
-            return None;
-        };
-        let spot = spot_at(model.locations(), self.below.slots(), i)?;
+        let model = self.model.as_ref()?;
+        let spot = Numbers::over(model, self.below.slots()).spot(i)?;
         if !contains(model.successors(spot.location, letter), b.location) {
             return None;
         }
@@ -95,14 +85,6 @@ impl<G: Graph> Graph for Layer<G> {
             contains(model.accepting(), spot.location),
             self.below.accepts(state),
         );
-        if phase.same(b.phase) {
-            Some(Layered {
-                location: spot.location,
-                phase: spot.phase,
-                state,
-            })
-        } else {
-            None
-        }
+        (phase == b.phase).then_some(spot.over(state))
     }
 }

@@ -4,7 +4,7 @@ ghost use Rattle.layer.specs.Misfits.{number as numbered};
 
 use sheet::model::Model;
 
-// The model is handed back.
+// The model is handed back. It has no `Debug`, so this has none, and is no `Error`.
 #[derive(Drop)]
 pub enum Misfit {
     // its letters are not those below
@@ -14,6 +14,7 @@ pub enum Misfit {
 }
 
 impl Misfit {
+    // The number by which the refusal is known, as those of a writer and of an inquiry have theirs.
     pub fn number(&self) -> u8
         ensures { result ≡ numbered self.now }
     {

@@ -5,10 +5,10 @@ use std::test::Fail;
 
 fn load(heap: Global, sheet: &[u8]) -> Result<Model, Fail> {
     let mut model = Model::fresh(heap)?;
-    match model.load(heap, sheet) {
-        Ok(()) => Ok(model),
-        Err(_) => Err(Fail::new("the sheet is refused")),
-    }
+    model
+        .load(heap, sheet)
+        .map_err(|_| Fail::new("the sheet is refused"))?;
+    Ok(model)
 }
 
 // From 0 to 1 and back under one letter; 1 accepts.

@@ -1,24 +1,14 @@
 -- The entries of a table, cell by cell, and how many blocks they take.
-use Rattle.std.proofs.Common.{◌≡◌, ℕ, zero, suc, ◌+◌, ◌/◌, ◌%◌, ◌<◌, ◌≤◌, Bool, true, false, cond, leb, List, [], ◌∷◌, ◌++◌, length, get_or, drop, sym, refl, ap, ◌∙◌, add-one, arith, length-append}
-use lib.ListN.{length-map}
-use Rattle.std.proofs.lemmas.Nat.{mul-le}
+use Rattle.std.proofs.Common.{◌≡◌, ℕ, suc, ◌+◌, ◌/◌, ◌%◌, ◌<◌, ◌≤◌, Bool, true, false, cond, leb, List, [], ◌∷◌, ◌++◌, length, drop, sym, refl, ap, ◌∙◌, add-one, arith, length-append}
 use Rattle.std.proofs.lemmas.List.{at_drop_more, at_drop_all}
-use Rattle.std.proofs.lemmas.Bool.{cond-false, lt-leb, and_parts, leb-true}
+use Rattle.std.proofs.lemmas.Bool.{cond_both, cond-false, lt-leb}
 use Rattle.formula.specs.declared.token.Token.{Token}
-use Rattle.formula.specs.Shape.{shaped}
-use Rattle.formula.specs.Tokens.{code}
-use Rattle.inspect.specs.declared.head.Head.{Head}
-use Rattle.inspect.specs.Checks.{allowed}
 use Rattle.inspect.specs.Denotes.{Entry, Content, entry_bytes}
-use Rattle.layout.specs.declared.cursor.Cursor.{Cursor}
-use Rattle.layout.specs.Cursors.{advanced}
+use Rattle.layout.specs.Cursors.{Spot, advanced}
 use Rattle.layout.specs.Standing.{tokens_at, entry_at, entries_at}
-use Rattle.layout.specs.Valid.{Valid, every, proper}
 use Rattle.layout.specs.Written.{fits, packed, bodies, entries_from, entries_of, head_payload}
 use Rattle.layout.proofs.Heads.{length_head_payload}
-
-pub length_entry : (e : Entry) → length (entry_bytes e) ≡ 3 + length e.tokens
-length_entry e = omega (arith, length-map e.tokens code)
+use Rattle.layout.proofs.Packing.{length_entry}
 
 module _ (c : Content) (q : ℕ) where
   skipped : (ts : List Token) (table : List (List Token)) → length ts ≡ 0 → entries_from c.head.letters q (ts ∷ table) ≡ entries_from c.head.letters (suc q) table
@@ -42,34 +32,21 @@ module _ (c : Content) (q : ℕ) where
   pub entries_end : length c.formulas ≤ q → entries_at c q ≡ []
   entries_end h = at_drop_all (entries_from c.head.letters q) c.formulas q h
 
--- what a valid content's cells hold is short, and they are few
-proper_short : (h : Head) (ts : List Token) → proper h ts ≡ true → length ts ≤ 255
-proper_short h [] good = omega arith
-proper_short h (t ∷ ts) good =
-    let rest = (and_parts (shaped 0 (t ∷ ts)) _ good).1 in leb-true (length (t ∷ ts)) 255 (and_parts (every (allowed h.sort h.locations) (t ∷ ts)) _ rest).1
-
-short : (h : Head) (table : List (List Token)) → every (proper h) table ≡ true → (q : ℕ) → length (get_or table q []) ≤ 255
-short h [] good q = omega arith
-short h (ts ∷ table) good zero = proper_short h ts (and_parts (proper h ts) _ good).0
-short h (ts ∷ table) good (suc q) = short h table (and_parts (proper h ts) _ good).1 q
-
-pub cell_short : (c : Content) → Valid c → (q : ℕ) → length (tokens_at c q) ≤ 255
-cell_short c valid q = short c.head c.formulas valid.formulas q
-
-pub cells_few : (c : Content) → Valid c → length c.formulas ≤ 256
-cells_few c valid =
-    omega (arith, mul-le c.head.locations c.head.letters 32 8 valid.fields.locations valid.fields.letters, valid.long)
-
 -- how many blocks the entries take behind a body of this many bytes, with its own
 abbrev pub tally : ℕ → List Entry → ℕ
 tally used [] = 1
 tally used (e ∷ es) = cond (leb (used + length (entry_bytes e)) 508) (tally (used + length (entry_bytes e)) es) (suc (tally (length (entry_bytes e)) es))
 
-tally_cursor : (b : Bool) (k m n : ℕ) (es : List Entry) → let d : Cursor = cond b (record { block = k; used = m }) (record { block = k + 1; used = n }) in k + cond b (tally m es) (suc (tally n es)) ≡ d.block + tally d.used es
+pub tally_some : (used : ℕ) (es : List Entry) → 0 < tally used es
+tally_some used [] = omega arith
+tally_some used (e ∷ es) =
+    cond_both (leb (used + length (entry_bytes e)) 508) _ _ (λ n. 0 < n) (λ _. tally_some (used + length (entry_bytes e)) es) (λ _. omega arith)
+
+tally_cursor : (b : Bool) (k m n : ℕ) (es : List Entry) → let d : Spot = cond b (record { block = k; used = m }) (record { block = k + 1; used = n }) in k + cond b (tally m es) (suc (tally n es)) ≡ d.block + tally d.used es
 tally_cursor true k m n es = refl
 tally_cursor false k m n es = omega arith
 
-pub tally_step : (d : Cursor) (n : ℕ) (e : Entry) (es : List Entry) → n ≡ 3 + length e.tokens → d.block + tally d.used (e ∷ es) ≡ (advanced d n).block + tally (advanced d n).used es
+pub tally_step : (d : Spot) (n : ℕ) (e : Entry) (es : List Entry) → n ≡ 3 + length e.tokens → d.block + tally d.used (e ∷ es) ≡ (advanced d n).block + tally (advanced d n).used es
 tally_step d n e es h =
     tally_cursor (leb (d.used + length (entry_bytes e)) 508) d.block _ _ es
     ∙ ap (λ m. (advanced d m).block + tally (advanced d m).used es) (length_entry e ∙ sym h)

@@ -6,6 +6,7 @@ use Rattle.std.specs.List.{AllByRecursion}
 use Rattle.std.proofs.lemmas.Nat.{pow_pos, mod_below}
 use Rattle.std.proofs.ByRecursion.{All-append, All-set, All-take, All-drop, Decides-by_and}
 use Rattle.std.proofs.lemmas.List.{length-set}
+use Rattle.std.proofs.lemmas.List.Elements.{All-replicate, recursion_from_All}
 use Rattle.std.proofs.lemmas.Bool.{and_from, le-leb}
 use Rattle.formula.specs.declared.token.Token.{Token}
 use Rattle.formula.specs.Shape.{shaped}
@@ -64,10 +65,6 @@ module _ (letters : ℕ) where
   sizes_laid (e ∷ es) table =
       let i = e.location * letters + e.letter in omega (arith, sizes_laid es (set table i e.tokens), sizes_set table i e.tokens)
 
-all_empty : (P : List Token → Type 0) (n : ℕ) → P [] → AllByRecursion P (replicate n [])
-all_empty P zero p = tt
-all_empty P (suc n) p = (p, all_empty P n p)
-
 sizes_empty : (n : ℕ) → sizes (replicate n []) ≡ 0
 sizes_empty zero = refl
 sizes_empty (suc n) = omega (arith, sizes_empty n)
@@ -84,7 +81,7 @@ denotes_valid asked xs c bytes d =
     let places = h.locations * h.letters in
     let P : List Token → Type 0 = λ ts. proper h ts ≡ true in
     let entries = proper_entries h d.entries d.proper (fills_small xs 1 (blocks xs - 1) d.entries bytes d.filled) in
-    let all = all_laid h.letters P d.entries (replicate places []) (all_empty P places refl) entries in
+    let all = all_laid h.letters P d.entries (replicate places []) (recursion_from_All P _ (All-replicate P places [] refl)) entries in
     record {
       fields = d.fields;
       accepting = subst⁻¹ (λ g. g.accepting < 2 ^ g.locations) d.says (mod_below _ _ (pow_pos _));

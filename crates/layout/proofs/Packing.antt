@@ -16,7 +16,7 @@ Small e = length e.tokens ≤ 255
 abbrev pub bytes_of : List Entry → List ℕ
 bytes_of es = flat_map entry_bytes es
 
-length_entry : (e : Entry) → length (entry_bytes e) ≡ 3 + length e.tokens
+pub length_entry : (e : Entry) → length (entry_bytes e) ≡ 3 + length e.tokens
 length_entry e = omega (arith, length-map e.tokens code)
 
 pub length_bytes : (es : List Entry) → length (bytes_of es) ≡ 3 * length es + tokens_in es

@@ -1,21 +1,20 @@
 -- What stands in a sheet goes on standing as blocks are ended and entries are laid, until the sheet is written.
 use Rattle.std.proofs.Common.{◌≡◌, ℕ, suc, ◌+◌, ◌-◌, ◌*◌, ◌%◌, ◌<◌, ◌≤◌, Bool, true, false, cond, ltb, leb, List, [], ◌∷◌, ◌++◌, length, take, drop, sym, refl, ap, ◌∙◌, subst, ap₂, append_assoc, append-nil, add-one, arith, length-append, take_at, drop_at}
 use Rattle.std.specs.List.{AllByRecursion}
-use Rattle.std.proofs.lemmas.List.{take-take}
+use Rattle.std.proofs.lemmas.List.{take-take, nil_from_length}
 use Rattle.std.proofs.lemmas.Bool.{cond_both, cond-true, cond-false, ltb-true, ltb-false, leb-true, leb-false, le-leb, lt-leb, le-ltb}
 use Rattle.inspect.specs.Format.{block, check_of, kind, weighted}
 use Rattle.inspect.specs.Denotes.{Entry, Content, entry_bytes}
-use Rattle.layout.specs.declared.cursor.Cursor.{Cursor}
-use Rattle.layout.specs.Cursors.{position, advanced, closing, check_bytes, ended, next_block, next_opened, roomy, room_made}
+use Rattle.layout.specs.Cursors.{Spot, Reaches, position, advanced, closing, check_bytes, ended, next_block, next_opened, roomy, room_made}
 use Rattle.layout.specs.Pasted.{pasted}
 use Rattle.layout.specs.Standing.{tokens_at, entry_at, entries_at, Stands}
 use Rattle.layout.specs.Valid.{Valid}
 use Rattle.layout.specs.Written.{zeros, sealed, head_payload, closed, fits, packed, bodies, sealed_from, entries_of, written}
 use Rattle.layout.proofs.Blocks.{length_sealed}
-use Rattle.layout.proofs.Cells.{length_entry, entries_take, packed_full}
+use Rattle.layout.proofs.Cells.{entries_take, packed_full}
 use Rattle.layout.proofs.Heads.{length_zeros, length_head_payload}
-use Rattle.layout.proofs.Packing.{Small, length_closed}
-use Rattle.layout.proofs.Pastes.{pasted_at, drop_pasted, length_pasted}
+use Rattle.layout.proofs.Packing.{Small, length_entry, length_closed}
+use Rattle.layout.proofs.Pastes.{pasted_at, length_pasted}
 use Rattle.layout.proofs.Sheets.{small, written_length, written_few}
 
 length_closing : (used : ℕ) → used ≤ 508 → length (closing used) ≡ 508 - used
@@ -49,7 +48,7 @@ length_sealed_from k (b ∷ bs) (h, hs) =
     length-append (sealed k (closed b)) (sealed_from (suc k) bs)
     ∙ omega (arith, length_sealed k (closed b) (length_closed b h), length_sealed_from (suc k) bs hs)
 
-module _ (c : Content) (xs : List ℕ) (d : Cursor) (es : List Entry) (s : Stands c xs d es) where
+module _ (c : Content) (xs : List ℕ) (d : Spot) (es : List Entry) (s : Stands c xs d es) where
   stands_length : length (written c) ≡ d.block * 512 + length (packed s.body es) * 512
   stands_length =
       let within : length s.body ≤ 508 = omega (arith, s.used, s.within) in
@@ -59,9 +58,6 @@ module _ (c : Content) (xs : List ℕ) (d : Cursor) (es : List Entry) (s : Stand
   -- the block that is open lies within the sheet
   pub stands_fit : d.block * 512 + 512 ≤ length (written c)
   stands_fit = omega (arith, stands_length, packed_some s.body es)
-
-  pub stands_few : d.block < 64
-  stands_few = omega (arith, stands_fit, s.few)
 
   front_length : length (s.past ++ kind d.block ∷ d.block ∷ s.body) ≡ position d
   front_length = length-append s.past _ ∙ omega (arith, s.block, s.used)
@@ -117,28 +113,23 @@ module _ (c : Content) (xs : List ℕ) (d : Cursor) (es : List Entry) (s : Stand
   closing_room : position d + length (closing d.used) ≤ length xs
   closing_room = omega (arith, length_closing d.used s.within, stands_fit, s.room, s.within)
 
-  ended_same : (length (ended xs d) ≡ length xs) × (drop (length (written c)) (ended xs d) ≡ drop (length (written c)) xs)
+  ended_same : length (ended xs d) ≡ length xs
   unfolding ended
   ended_same =
       let ys = pasted xs (position d) (closing d.used) in
-      let k = d.block in
-      let cs = check_bytes (check_of (block ys k)) in
       let same : length ys ≡ length xs = length_pasted xs _ _ closing_room in
-      let room : k * 512 + 510 + length cs ≤ length ys = omega (arith, stands_fit, s.room, same) in (
-        length_pasted ys cs _ room ∙ same,
-        drop_pasted ys cs _ room _ (omega (arith, stands_fit)) ∙ drop_pasted xs _ _ closing_room _ (omega (arith, length_closing d.used s.within, stands_fit, s.within)),
-      )
+      length_pasted ys (check_bytes (check_of (block ys d.block))) _ (omega (arith, stands_fit, s.room, same)) ∙ same
 
 -- the end of the last block ends the sheet
-pub stands_end : (c : Content) (xs : List ℕ) (d : Cursor) → Stands c xs d [] → ended xs d ≡ written c ++ drop (length (written c)) xs
-stands_end c xs d s =
+pub stands_end : (c : Content) (xs : List ℕ) (d : Spot) → length xs ≡ length (written c) → Stands c xs d [] → ended xs d ≡ written c
+stands_end c xs d long s =
     let sheet : s.past ++ sealed d.block (closed s.body) ≡ written c = ap (λ ys. s.past ++ ys) (sym (append-nil _)) ∙ s.rest in
     let rest = drop 2 (left c xs d [] s) in
     let is : ended xs d ≡ written c ++ rest = ended_is c xs d [] s ∙ ap (λ ys. ys ++ rest) sheet in
-    let behind : rest ≡ drop (length (written c)) xs = sym (drop_at (written c) rest _ refl) ∙ ap (drop (length (written c))) (sym is) ∙ (ended_same c xs d [] s).1 in
-    is ∙ ap (λ ys. written c ++ ys) behind
+    let none : length rest ≡ 0 = omega (arith, long, ended_same c xs d [] s, ap length is, length-append (written c) rest) in
+    is ∙ ap (λ ys. written c ++ ys) (nil_from_length rest none) ∙ append-nil (written c)
 
-module _ (c : Content) (xs : List ℕ) (d : Cursor) (e : Entry) (es : List Entry) (s : Stands c xs d (e ∷ es)) where
+module _ (c : Content) (xs : List ℕ) (d : Spot) (e : Entry) (es : List Entry) (s : Stands c xs d (e ∷ es)) where
   -- an entry that does not fit finds room in the next block
   module _ (full : fits s.body e ≡ false) where
     next_room : (d.block + 2) * 512 ≤ length (written c)
@@ -147,10 +138,7 @@ module _ (c : Content) (xs : List ℕ) (d : Cursor) (e : Entry) (es : List Entry
         omega (arith, stands_length c xs d (e ∷ es) s, more, packed_some (entry_bytes e) es)
 
     start_room : (d.block + 1) * 512 + 2 ≤ length (ended xs d)
-    start_room = omega (arith, next_room, s.room, (ended_same c xs d (e ∷ es) s).0)
-
-    next_behind : drop (length (written c)) (next_opened xs d) ≡ drop (length (written c)) xs
-    next_behind = drop_pasted (ended xs d) _ _ start_room _ (omega (arith, next_room)) ∙ (ended_same c xs d (e ∷ es) s).1
+    start_room = omega (arith, next_room, s.room, ended_same c xs d (e ∷ es) s)
 
     next_rest : (s.past ++ sealed d.block (closed s.body)) ++ sealed_from (d.block + 1) (packed [] (e ∷ es)) ≡ written c
     next_rest =
@@ -176,7 +164,7 @@ module _ (c : Content) (xs : List ℕ) (d : Cursor) (e : Entry) (es : List Entry
       rest = next_rest;
       small = s.small;
       few = s.few;
-      room = omega (arith, s.room, length_pasted (ended xs d) (kind (d.block + 1) ∷ (d.block + 1) ∷ []) ((d.block + 1) * 512) start_room, (ended_same c xs d (e ∷ es) s).0);
+      room = omega (arith, s.room, length_pasted (ended xs d) (kind (d.block + 1) ∷ (d.block + 1) ∷ []) ((d.block + 1) * 512) start_room, ended_same c xs d (e ∷ es) s);
     }
 
   -- an entry that fits is laid behind the others
@@ -186,9 +174,6 @@ module _ (c : Content) (xs : List ℕ) (d : Cursor) (e : Entry) (es : List Entry
 
     entry_room_here : position d + length (entry_bytes e) ≤ length xs
     entry_room_here = omega (arith, entry_room, s.room)
-
-    entry_behind : drop (length (written c)) (pasted xs (position d) (entry_bytes e)) ≡ drop (length (written c)) xs
-    entry_behind = drop_pasted xs _ _ entry_room_here _ entry_room
 
     stands_entry : Stands c (pasted xs (position d) (entry_bytes e)) (record { block = d.block; used = d.used + length (entry_bytes e) }) es
     stands_entry = record {
@@ -206,25 +191,24 @@ module _ (c : Content) (xs : List ℕ) (d : Cursor) (e : Entry) (es : List Entry
       room = omega (arith, s.room, length_pasted xs (entry_bytes e) (position d) entry_room_here);
     }
 
--- ys and f have room for an entry of n bytes, and behind the sheet ys is as xs
-record Roomy (c : Content) (xs ys : List ℕ) (f : Cursor) (n : ℕ) (es : List Entry) : Type 0 where
+-- ys and f have room for an entry of n bytes
+record Roomy (c : Content) (ys : List ℕ) (f : Spot) (n : ℕ) (es : List Entry) : Type 0 where
   pub stands : Stands c ys f es
   pub fit : f.used + n ≤ 508
-  pub behind : drop (length (written c)) ys ≡ drop (length (written c)) xs
 
-both : (b : Bool) {xs ys : List ℕ} {f h : Cursor} (P : List ℕ → Cursor → Type 0) → (b ≡ true → P xs f) → (b ≡ false → P ys h) → P (cond b xs ys) (cond b f h)
+both : (b : Bool) {xs ys : List ℕ} {f h : Spot} (P : List ℕ → Spot → Type 0) → (b ≡ true → P xs f) → (b ≡ false → P ys h) → P (cond b xs ys) (cond b f h)
 both true P f g = f refl
 both false P f g = g refl
 
-module _ (c : Content) (xs : List ℕ) (d : Cursor) (e : Entry) (es : List Entry) (n : ℕ) (long : n ≡ length (entry_bytes e)) (s : Stands c xs d (e ∷ es)) where
-  stands_room : Roomy c xs (room_made xs d n) (roomy d n) n (e ∷ es)
+module _ (c : Content) (xs : List ℕ) (d : Spot) (e : Entry) (es : List Entry) (n : ℕ) (long : n ≡ length (entry_bytes e)) (s : Stands c xs d (e ∷ es)) where
+  stands_room : Roomy c (room_made xs d n) (roomy d n) n (e ∷ es)
   stands_room =
       let short : length e.tokens ≤ 255 = s.small.0 in
-      both (leb (d.used + n) 508) (λ ys f. Roomy c xs ys f n (e ∷ es))
-      (λ t. record { stands = s; fit = leb-true _ 508 t; behind = refl })
+      both (leb (d.used + n) 508) (λ ys f. Roomy c ys f n (e ∷ es))
+      (λ t. record { stands = s; fit = leb-true _ 508 t })
       (λ t.
       let full : fits s.body e ≡ false = lt-leb _ 508 (omega (arith, leb-false (d.used + n) 508 t, s.used)) in
-      record { stands = stands_next c xs d e es s full; fit = omega (arith, length_entry e); behind = next_behind c xs d e es s full })
+      record { stands = stands_next c xs d e es s full; fit = omega (arith, length_entry e) })
 
   -- a cell's entry, laid where there is room
   stands_cell : Stands c (pasted (room_made xs d n) (position (roomy d n)) (entry_bytes e)) (advanced (roomy d n) n) es
@@ -235,24 +219,16 @@ module _ (c : Content) (xs : List ℕ) (d : Cursor) (e : Entry) (es : List Entry
       subst (λ f. Stands c (pasted (room_made xs d n) (position (roomy d n)) (entry_bytes e)) f es) (sym moved)
       (stands_entry c _ _ e es r.stands (omega (arith, r.fit)))
 
-  stands_behind : drop (length (written c)) (pasted (room_made xs d n) (position (roomy d n)) (entry_bytes e)) ≡ drop (length (written c)) xs
-  stands_behind = entry_behind c _ _ e es stands_room.stands (omega (arith, stands_room.fit)) ∙ stands_room.behind
-
-pub stands_same : (c : Content) (es : List Entry) {xs ys : List ℕ} {d f : Cursor} → ys ≡ xs → f ≡ d → Stands c xs d es → Stands c ys f es
+pub stands_same : (c : Content) (es : List Entry) {xs ys : List ℕ} {d f : Spot} → ys ≡ xs → f ≡ d → Stands c xs d es → Stands c ys f es
 stands_same c es {xs} {ys} {d} {f} e k s = subst (λ h. Stands c ys h es) (sym k) (subst (λ zs. Stands c zs d es) (sym e) s)
 
 -- what holds as a cell's entry, of n bytes, is laid
-pub record Laid (c : Content) (xs : List ℕ) (d : Cursor) (q n : ℕ) : Type 0 where
-  pub within : d.used ≤ 508
-  pub short : n ≤ 508
-  pub few : (roomy d n).block < 64
-  pub fit : (roomy d n).block * 512 + 512 ≤ length xs
-  pub room : (roomy d n).used + n ≤ 508
+pub record Laid (c : Content) (xs : List ℕ) (d : Spot) (q n : ℕ) : Type 0 where
+  pub fit : Reaches xs (roomy d n).block
   pub entry : position (roomy d n) + length (entry_bytes (entry_at c q)) ≤ length (room_made xs d n)
   pub stands : Stands c (pasted (room_made xs d n) (position (roomy d n)) (entry_bytes (entry_at c q))) (advanced (roomy d n) n) (entries_at c (q + 1))
-  pub behind : drop (length (written c)) (pasted (room_made xs d n) (position (roomy d n)) (entry_bytes (entry_at c q))) ≡ drop (length (written c)) xs
 
-pub cell_laid : (c : Content) (xs : List ℕ) (d : Cursor) (q m : ℕ) → q < length c.formulas → m ≡ length (tokens_at c q) → (m ≡ 0 → ⊥) → Stands c xs d (entries_at c q) → Laid c xs d q (3 + m)
+pub cell_laid : (c : Content) (xs : List ℕ) (d : Spot) (q m : ℕ) → q < length c.formulas → m ≡ length (tokens_at c q) → (m ≡ 0 → ⊥) → Stands c xs d (entries_at c q) → Laid c xs d q (3 + m)
 cell_laid c xs d q m inside is some s =
     let e = entry_at c q in
     let es = entries_at c (q + 1) in
@@ -261,14 +237,9 @@ cell_laid c xs d q m inside is some s =
     let room = stands_room c xs d e es (3 + m) long here in
     let fit = stands_fit c _ _ _ room.stands in
     record {
-      within = here.within;
-      short = omega (arith, room.fit);
-      few = stands_few c _ _ _ room.stands;
       fit = omega (arith, fit, here.room);
-      room = room.fit;
       entry = omega (arith, long, fit, room.fit, room.stands.room);
       stands = stands_cell c xs d e es (3 + m) long here;
-      behind = stands_behind c xs d e es (3 + m) long here;
     }
 
 -- the head stands, with no room behind it
@@ -297,8 +268,3 @@ module _ (c : Content) (valid : Valid c) (xs : List ℕ) (room : length (written
     few = omega (arith, written_length c valid, written_few c valid);
     room = omega (arith, room, head_room, length_head_payload c.head, length_pasted xs (kind 0 ∷ 0 ∷ head_payload c.head) 0 (omega (arith, room, head_room, length_head_payload c.head)));
   }
-
-  pub start_behind : drop (length (written c)) (pasted xs 0 (kind 0 ∷ 0 ∷ head_payload c.head)) ≡ drop (length (written c)) xs
-  start_behind =
-      let long = length_head_payload c.head in
-      drop_pasted xs _ 0 (omega (arith, room, head_room)) _ (omega (arith, head_room))

@@ -1,10 +1,11 @@
 -- A valid content stays valid where each formula is replaced by the set that it names, and the sets are found again.
-use Rattle.std.proofs.Common.{◌≡◌, ℕ, ◌^◌, ◌<◌, ◌≤◌, Bool, true, not, ltb, List, [], ◌∷◌, map, length, sym, refl, ap, ◌∙◌, ap₂, arith}
+use Rattle.std.proofs.Common.{◌≡◌, ℕ, ◌^◌, ◌<◌, ◌≤◌, Bool, true, not, ltb, List, [], ◌∷◌, map, length, get_or, sym, refl, ap, ◌∙◌, ap₂, arith}
 use mathlib.Core.List.{map-map}
 use lib.ListN.{length-map}
 use Rattle.std.specs.List.{range_with_len, AllByRecursion}
 use Rattle.std.proofs.lemmas.List.FromFn.{length-range_with_len}
 use Rattle.std.proofs.ByRecursion.{All-map, All-weaker, All-get_or, All-from_get_or}
+use Rattle.std.proofs.lemmas.List.Elements.{recursion_from_All}
 use Rattle.std.proofs.lemmas.List.Filters.{length-filter_both}
 use Rattle.std.proofs.lemmas.Bool.{and_parts, ltb-true, lt-ltb}
 use Rattle.formula.specs.declared.token.Token.{Token}
@@ -72,17 +73,13 @@ module _ (h : Head) where
 pub every_map : {X Y : Type 0} (test : Y → Bool) (f : X → Y) (xs : List X) → AllByRecursion (λ x. test (f x) ≡ true) xs → every test (map f xs) ≡ true
 every_map test f xs all = (decides_every test (map f xs)).1 (All-map (λ y. test y ≡ true) f xs all)
 
-all_of : {X : Type 0} (P : X → Type 0) → ((x : X) → P x) → (xs : List X) → AllByRecursion P xs
-all_of P each [] = tt
-all_of P each (x ∷ xs) = (each x, all_of P each xs)
-
 pub spelled_valid : (c : Content) → Valid c → Valid (spelled c)
 spelled_valid c valid =
     record {
       fields = valid.fields;
       accepting = valid.accepting;
       long = length-map c.formulas _ ∙ valid.long;
-      formulas = every_map (proper c.head) _ c.formulas (all_of _ (λ ts. spelling_proper c.head (named ts) valid.fields.locations) c.formulas);
+      formulas = every_map (proper c.head) _ c.formulas (recursion_from_All _ c.formulas (λ i d _. spelling_proper c.head (named (get_or c.formulas i d)) valid.fields.locations));
       tokens = omega (arith, sizes_short c.head c.formulas valid.formulas, valid.tokens);
     }
 

@@ -1,5 +1,5 @@
 -- The entries of a table rise, are proper, hold its tokens, and give the table back.
-use Rattle.std.proofs.Common.{◌≡◌, ℕ, suc, ◌+◌, ◌*◌, ◌/◌, ◌%◌, ◌<◌, ◌≤◌, Bool, true, List, [], ◌∷◌, ◌++◌, length, replicate, sym, refl, ap, ◌∙◌, inl, inr, ⊎_elim, mul-le-mul_right, suc-mul, zero-add, arith, length-append}
+use Rattle.std.proofs.Common.{◌≡◌, ℕ, suc, ◌+◌, ◌*◌, ◌/◌, ◌%◌, ◌<◌, ◌≤◌, true, List, [], ◌∷◌, ◌++◌, length, replicate, sym, refl, ap, ◌∙◌, inl, inr, ⊎_elim, mul-le-mul_right, suc-mul, zero-add, arith, length-append}
 use lib.Seq.{append_snoc, set_at}
 use Rattle.std.specs.List.{AllByRecursion}
 use Rattle.std.proofs.lemmas.Nat.{div-add-mod', div_below, mod_below}
@@ -11,11 +11,8 @@ use Rattle.inspect.specs.Checks.{allowed}
 use Rattle.inspect.specs.Denotes.{Entry, Before, Rising, Proper, tokens_in, laid}
 use Rattle.layout.specs.Valid.{every, proper, sizes}
 use Rattle.layout.specs.Written.{entries_from}
+use Rattle.layout.proofs.Denoted.{decides_every}
 use Rattle.layout.proofs.Packing.{Small}
-
-every_all : {X : Type 0} (test : X → Bool) (xs : List X) → every test xs ≡ true → AllByRecursion (λ x. test x ≡ true) xs
-every_all test [] h = tt
-every_all test (x ∷ xs) h = let parts = and_parts _ _ h in (parts.0, every_all test xs parts.1)
 
 module _ (letters : ℕ) where
   -- the entry of place q
@@ -72,7 +69,7 @@ module _ (h : Head) (some : 0 < h.letters) where
             location = div_below q h.letters h.locations some (omega arith);
             letter = mod_below q h.letters some;
             formula = shaped_spells (t ∷ ts) here.0;
-            allowed = every_all (allowed h.sort h.locations) (t ∷ ts) more.0;
+            allowed = (decides_every (allowed h.sort h.locations) (t ∷ ts)).0 more.0;
           },
           leb-true (length (t ∷ ts)) 255 more.1,
         ),

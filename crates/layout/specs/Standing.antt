@@ -4,7 +4,7 @@ use Rattle.std.specs.List.{AllByRecursion}
 use Rattle.formula.specs.declared.token.Token.{Token}
 use Rattle.inspect.specs.Format.{kind}
 use Rattle.inspect.specs.Denotes.{Entry, Content}
-use Rattle.layout.specs.declared.cursor.Cursor.{Cursor}
+use Rattle.layout.specs.Cursors.{Spot}
 use Rattle.layout.specs.Written.{packed, sealed_from, entries_from, written}
 
 -- the tokens of a cell, the entry that they make, and the entries of this cell and those after it
@@ -18,7 +18,7 @@ abbrev pub entries_at : Content → ℕ → List Entry
 entries_at c q = entries_from c.head.letters q (drop q c.formulas)
 
 -- the blocks that are ended and the one that is open, which the entries es are to follow
-pub record Stands (c : Content) (xs : List ℕ) (cursor : Cursor) (es : List Entry) : Type 0 where
+pub record Stands (c : Content) (xs : List ℕ) (cursor : Spot) (es : List Entry) : Type 0 where
   pub past : List ℕ
   pub body : List ℕ
   pub after : List ℕ

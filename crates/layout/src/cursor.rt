@@ -1,16 +1,28 @@
 // Where the next entry goes: into the block that is open, behind what its body holds so far.
-ghost use Rattle.std.specs.Prelude.{◌≡◌, ◌+◌, ◌^◌, ◌<◌, ◌≤◌, nat_le};
-ghost use Rattle.layout.specs.Cursors.{position, advanced};
+ghost use Rattle.std.specs.Prelude.{◌≡◌, ◌+◌, ◌<◌, ◌≤◌, nat_le};
+ghost use Rattle.layout.specs.Cursors.{Spot, position, advanced};
 
 use inspect::block::BLOCK;
+use std::marker::Model;
 
 // How many bytes lie in a block between its number and its check.
 pub(crate) const BODY: usize = 508;
 
 #[derive(Clone, Copy)]
 pub(crate) struct Cursor {
-    pub(crate) block: usize,
+    pub(crate) block: u8,
     pub(crate) used: usize,
+}
+
+// Clauses see a record of the same fields, so that a definition can make one without a proof that it is within a body.
+impl Model for Cursor {
+    ghost Value = { Spot };
+
+    ghost view = { λ c. record { block = c.block; used = c.used } };
+
+    ghost invariant = { λ c. c.used ≤ 508 };
+
+    ghost inverse = { λ s. record { block = s.block; used = s.used } };
 }
 
 // The head leaves no room in its block: an entry opens the next, and a sheet without entries ends here.
@@ -22,23 +34,22 @@ pub(crate) const BEHIND_HEAD: Cursor = Cursor {
 impl Cursor {
     // Where the body's next byte lies in the sheet.
     pub(crate) fn at(self) -> usize
-        requires { (self.block < 2 ^ 32) × (self.used ≤ 508) }
         ensures { result ≡ position self }
     {
-        self.block * BLOCK + (2 + self.used)
+        usize::from(self.block) * BLOCK + (2 + self.used)
     }
 
     // Whether an entry of this many bytes ends before the block's check.
     pub(crate) fn fits(self, entry: usize) -> bool
-        requires { (self.used ≤ 508) × (entry ≤ 508) }
         ensures { result ≡ nat_le (self.used + entry) 508 }
     {
-        self.used + entry <= BODY
+        entry <= BODY - self.used
     }
 
     // The cursor behind such an entry, which opens a block where it does not fit.
     pub(crate) fn after(self, entry: usize) -> Cursor
-        requires { (self.used ≤ 508) × ((entry ≤ 508) × (self.block < 2 ^ 32)) }
+        requires short { entry ≤ 508 }
+        requires few { self.block < 255 }
         ensures { result ≡ advanced self entry }
     {
         if self.fits(entry) {

@@ -42,17 +42,36 @@ impl Source for Pair {
 }
 
 #[test]
+fn says_what_its_head_says(rt: HostRuntime) {
+    assert_eq!(rt; Pair.locations(), 2);
+    assert_eq!(rt; Pair.letters(), 1);
+    assert_eq!(rt; Pair.initial(), 0);
+    assert_eq!(rt; Pair.accepting(), 2);
+}
+
+#[test]
 fn writes_an_entry(rt: HostRuntime) {
     let mut out = [0xaa; 1025];
-    assert!(rt; write(&Pair, &mut out) == Ok(1024));
-    assert!(rt; &out[0..10] == [1, 0, 1, 2, 1, 0, 2, 0, 0, 0].as_slice());
-    assert!(rt; &out[512..521] == [2, 1, 1, 0, 3, 0, 0x40, 0x43, 0xff].as_slice());
-    assert!(rt; out[1024] == 0xaa);
+    assert_eq!(rt; write(&Pair, &mut out), Ok(1024));
+    assert_eq!(rt; &out[0..10], [1, 0, 1, 2, 1, 0, 2, 0, 0, 0].as_slice());
+    assert_eq!(rt;
+        &out[512..521],
+        [2, 1, 1, 0, 3, 0, 0x40, 0x43, 0xff].as_slice()
+    );
+    assert_eq!(rt; out[1024], 0xaa);
 }
 
 #[test]
 fn leaves_what_is_too_short(rt: HostRuntime) {
     let mut out = [0xaa; 1023];
-    assert!(rt; write(&Pair, &mut out) == Err(WriteFault::TooFewBytes));
-    assert!(rt; out[0] == 0xaa);
+    assert_eq!(rt; write(&Pair, &mut out), Err(WriteFault::TooFewBytes));
+    assert_eq!(rt; out[0], 0xaa);
+}
+
+#[test]
+fn says_what_was_wrong(rt: HostRuntime) {
+    let fault = WriteFault::TooFewBytes;
+    assert_eq!(rt; fault.number(), 9);
+    let text = format!(in rt.alloc(); "{fault}").expect(&rt, "memory for a few words");
+    assert_eq!(rt; text.as_str(), "the bytes given are too few");
 }

@@ -8,13 +8,15 @@ ghost use Rattle.layout.specs.Writes.{Writes, ReadsBack, write_number};
 ghost use Rattle.layout.specs.Written.{bodies, entries_of, written};
 
 use crate::cursor::{BEHIND_HEAD, Cursor};
-use crate::put::{make_room, put, put_end, put_head};
+use crate::put::{make_room, put_end, put_head};
 use crate::source::Source;
 use inspect::block::BLOCK;
+use std::error::Error;
+use std::fmt;
 
 #[derive(Clone, Copy, PartialEq, Eq, Debug)]
 pub enum WriteFault {
-    TooFewBytes,
+    TooFewBytes = 9,
 }
 
 impl WriteFault {
@@ -22,11 +24,19 @@ impl WriteFault {
     pub fn number(self) -> u8
         ensures { result ≡ write_number self }
     {
+        self as u8
+    }
+}
+
+impl fmt::Display for WriteFault {
+    fn fmt<W: fmt::Write>(&self, f: &mut fmt::Formatter<W>) -> fmt::Result {
         match self {
-            WriteFault::TooFewBytes => 9,
+            WriteFault::TooFewBytes => write!(f, "the bytes given are too few"),
         }
     }
 }
+
+impl Error for WriteFault {}
 
 // How many bytes an entry has before its tokens: location, letter and length.
 const PREFIX: usize = 3;
@@ -42,36 +52,38 @@ fn count_blocks<S: Source>(source: &S) -> usize
             cursor = cursor.after(PREFIX + tokens);
         }
     }
-    cursor.block + 1
+    usize::from(cursor.block) + 1
 }
 
-fn put_tokens<S: Source>(source: &S, cell: usize, out: &mut [u8], at: usize)
-    requires { at + length (tokens_at (S.content source.now) cell) ≤ length out.old }
-    ensures { out.new ≡ pasted out.old at (map code (tokens_at (S.content source.now) cell)) }
+// The tokens of a cell, a byte each, over all of `out`.
+fn put_tokens<S: Source>(source: &S, cell: usize, out: &mut [u8])
+    requires { length out.old ≡ length (tokens_at (S.content source.now) cell) }
+    ensures { out.new ≡ map code (tokens_at (S.content source.now) cell) }
 {
-    for i in 0..source.length(cell) {
-        out[at + i] = source.token(cell, i).byte();
+    for (i, byte) in out.iter_mut().enumerate() {
+        *byte = u8::from(source.token(cell, i));
     }
 }
 
-fn put_entry<S: Source>(source: &S, cell: usize, out: &mut [u8], at: usize)
+// The entry of a cell, over all of `out`.
+fn put_entry<S: Source>(source: &S, cell: usize, out: &mut [u8])
     requires inside { cell < length (S.content source.now).formulas }
-    requires room { at + length (entry_bytes (entry_at (S.content source.now) cell)) ≤ length out.old }
-    ensures { out.new ≡ pasted out.old at (entry_bytes (entry_at (S.content source.now) cell)) }
+    requires room { length out.old ≡ length (entry_bytes (entry_at (S.content source.now) cell)) }
+    ensures { out.new ≡ entry_bytes (entry_at (S.content source.now) cell) }
 {
-    let letters = usize::from(source.head().letters);
+    let letters = usize::from(source.letters());
     let location = (cell / letters) as u8;
     let letter = (cell % letters) as u8;
-    put(out, at, &[location, letter, source.length(cell) as u8]);
-    put_tokens(source, cell, out, at + PREFIX);
+    let (front, tokens) = out.split_at_mut(PREFIX);
+    front.copy_from_slice(&[location, letter, tokens.len() as u8]);
+    put_tokens(source, cell, tokens);
 }
 
 // The entry of a cell, if it has tokens, in the block that is open or the next.
 fn put_cell<S: Source>(source: &S, cell: usize, out: &mut [u8], cursor: Cursor) -> Cursor
     requires inside { cell < length (S.content source.now).formulas }
     requires begun { Stands (S.content source.now) out.old cursor (entries_at (S.content source.now) cell) }
-    ensures stands { Stands (S.content source.now) out.new result (entries_at (S.content source.now) (cell + 1)) }
-    ensures behind { drop (length (written (S.content source.now))) out.new ≡ drop (length (written (S.content source.now))) out.old }
+    ensures { Stands (S.content source.now) out.new result (entries_at (S.content source.now) (cell + 1)) }
 {
     let tokens = source.length(cell);
     if tokens == 0 {
@@ -79,13 +91,15 @@ fn put_cell<S: Source>(source: &S, cell: usize, out: &mut [u8], cursor: Cursor) 
     }
     let entry = PREFIX + tokens;
     let room = make_room(out, cursor, entry);
-    put_entry(source, cell, out, room.at());
+    let at = room.at();
+    put_entry(source, cell, &mut out[at..at + entry]);
     room.after(entry)
 }
 
+// The sheet, over all of `out`.
 fn put_sheet<S: Source>(source: &S, out: &mut [u8])
-    requires { length (written (S.content source.now)) ≤ length out.old }
-    ensures { out.new ≡ written (S.content source.now) ++ drop (length (written (S.content source.now))) out.old }
+    requires { length out.old ≡ length (written (S.content source.now)) }
+    ensures { out.new ≡ written (S.content source.now) }
 {
     let head = source.head();
     put_head(out, head);
@@ -105,6 +119,6 @@ pub fn write<S: Source>(source: &S, out: &mut [u8]) -> Result<usize, WriteFault>
     if out.len() < length {
         return Err(WriteFault::TooFewBytes);
     }
-    put_sheet(source, out);
+    put_sheet(source, &mut out[..length]);
     Ok(length)
 }

@@ -3,6 +3,7 @@ use Rattle.std.specs.Prelude.{◌≡◌, ℕ, ◌+◌, ◌*◌, ◌^◌, ◌<◌
 use Rattle.std.proofs.Common.{⊎_elim, sym, ap, subst, ◌∙◌, arith, pow_pos}
 use Rattle.std.proofs.ByRecursion.{All-get_or}
 use Rattle.std.proofs.lemmas.List.{get_or_past}
+use Rattle.std.proofs.lemmas.Option.{none-some}
 use Rattle.std.proofs.lemmas.Bool.{both_ways, cases_lt, cond_both, cond-true, eqb-true, eq-eqb, lt-ltb, ltb-true}
 use Rattle.formula.specs.Sets.{has}
 use Rattle.formula.proofs.Sets.{has_zero, has_past}
@@ -23,8 +24,8 @@ small_at n sets all i =
 -- what a slot holds, and why
 slot_holds : (inside step : Bool) (i c : ℕ) → cond inside (cond step (Some i) None) None ≡ Some c → (c ≡ i) × (step ≡ true)
 slot_holds true true i c e = (cc, refl)
-slot_holds true false i c e = let z : ◌≡◌ {A = ℕ} 0 1 = cc in absurd (omega arith)
-slot_holds false step i c e = let z : ◌≡◌ {A = ℕ} 0 1 = cc in absurd (omega arith)
+slot_holds true false i c e = absurd (none-some c e)
+slot_holds false step i c e = absurd (none-some c e)
 
 module _ (h : Head) (sets : List ℕ) (fields : InRange h) (all : small h.locations sets ≡ true) where
   state : (a : ℕ) → a < h.locations → In a (range_with_len 0 h.locations)

@@ -5,10 +5,8 @@ use Rattle.formula.specs.Sets.{has}
 use Rattle.formula.specs.Unions.{named}
 use Rattle.graph.specs.Meaning.{Meaning}
 use Rattle.inspect.specs.declared.head.Head.{Head}
-use Rattle.inspect.specs.declared.head.Sort.TheVariants as sort
 use Rattle.inspect.specs.Denotes.{Content}
-use Rattle.sheet.specs.declared.model.Model.{Model}
-use Rattle.sheet.specs.Automata.{head_of}
+use Rattle.sheet.specs.Models.{Model}
 
 -- whether a steps to b under x: the sets stand by location and then by letter
 abbrev pub steps : Head → List ℕ → ℕ → ℕ → ℕ → Bool
@@ -39,7 +37,7 @@ graph_of h sets =
     }
 
 abbrev pub model_means : Model → Meaning ℕ
-model_means m = graph_of (head_of sort.Model m.locations m.letters m.initial m.accepting) (vec_items m.successors)
+model_means m = graph_of m.head (vec_items m.cells)
 
 -- the successors are the locations that the tokens name
 abbrev pub content_means : Content → Meaning ℕ

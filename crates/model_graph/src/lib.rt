@@ -9,17 +9,16 @@ ghost use Rattle.model_graph.specs.Laws.{graph_lawful};
 
 use formula::set::contains;
 use graph::Graph;
+use layout::source::Source;
 use sheet::model::Model;
 
 // The location of that number, if the model has it.
 fn location(model: &Model, i: u32) -> Option<u8>
-    ensures { result ≡ location_at model.now.locations i }
+    ensures { result ≡ location_at model.now.head.locations i }
 {
-    if i < u32::from(model.locations()) {
-        Some(i as u8)
-    } else {
-        None
-    }
+    u8::try_from(i)
+        .ok()
+        .filter(|&location| location < model.locations())
 }
 
 #[derive(Drop)]
@@ -34,7 +33,7 @@ impl Graph for ModelGraph {
 
     ghost lawful = { λ g.
         let m = g.model in
-        graph_lawful (model_content m).head m.successors.items (test_valid (model_content m) m.valid).fields m.sets };
+        graph_lawful (model_content m).head m.cells.items (test_valid (model_content m) m.valid).fields m.fits };
 
     fn letters(&self) -> u8 {
         self.model.letters()
@@ -57,10 +56,7 @@ impl Graph for ModelGraph {
     }
 
     fn top(&self, i: u32) -> u8 {
-        match location(&self.model, i) {
-            Some(top) => top,
-            None => self.model.initial(),
-        }
+        location(&self.model, i).unwrap_or(self.model.initial())
     }
 
     fn slots(&self) -> u32 {
@@ -68,11 +64,6 @@ impl Graph for ModelGraph {
     }
 
     fn slot(&self, letter: u8, b: u8, i: u32) -> Option<u8> {
-        let a = location(&self.model, i)?;
-        if contains(self.model.successors(a, letter), b) {
-            Some(a)
-        } else {
-            None
-        }
+        location(&self.model, i).filter(|&a| contains(self.model.successors(a, letter), b))
     }
 }

@@ -1,8 +1,8 @@
 // Models that are possible, impossible and spent.
 use crate::search::{asked, search};
-use crate::sheets::{Head, heading, sheet};
+use crate::sheets::{model, sheet};
 use anyhow::anyhow;
-use inspect::head::Sort;
+use inspect::head::Head;
 use model_graph::ModelGraph;
 use sheet::model::Model;
 
@@ -13,7 +13,7 @@ fn try_model(
     entries: &[u8],
     limit: u32,
 ) -> anyhow::Result<()> {
-    let bytes = sheet(Sort::Model, head, entries);
+    let bytes = sheet(head, entries);
     let mut model = Model::fresh(rt.alloc())?;
     let Ok(()) = model.load(rt.alloc(), &bytes) else {
         return Err(anyhow!("not loaded"));
@@ -25,16 +25,16 @@ fn try_model(
 pub fn try_models(rt: &HostRuntime) -> anyhow::Result<()> {
     // 0 and 1 step to each other, and 1 accepts
     let both = [0, 0, 1, 1, 1, 0, 1, 0];
-    try_model(rt, "there and back", heading(2, 1, 2), &both, 100)?;
-    try_model(rt, "as many sweeps as it needs", heading(2, 1, 2), &both, 3)?;
-    try_model(rt, "one sweep less", heading(2, 1, 2), &both, 2)?;
+    try_model(rt, "there and back", model(2, 1, 2), &both, 100)?;
+    try_model(rt, "as many sweeps as it needs", model(2, 1, 2), &both, 3)?;
+    try_model(rt, "one sweep less", model(2, 1, 2), &both, 2)?;
     // 0 to 1 to 2 to 3, and all accept
     let chain = [0, 0, 1, 1, 1, 0, 1, 2, 2, 0, 1, 3];
-    try_model(rt, "no way back", heading(4, 1, 15), &chain, 100)?;
+    try_model(rt, "no way back", model(4, 1, 15), &chain, 100)?;
     // each steps to itself, and 1 accepts
     let apart = [0, 0, 1, 0, 1, 0, 1, 1];
-    try_model(rt, "another loop accepts", heading(2, 1, 2), &apart, 100)?;
+    try_model(rt, "another loop accepts", model(2, 1, 2), &apart, 100)?;
     // 0 steps to 1 and 2 under the last letter; 2 accepts and steps to itself under the first
     let letters = [0, 1, 3, 1, 2, 0x43, 2, 0, 1, 2];
-    try_model(rt, "two letters", heading(3, 2, 4), &letters, 100)
+    try_model(rt, "two letters", model(3, 2, 4), &letters, 100)
 }

@@ -1,18 +1,11 @@
 // Small sheets: a head block and a block of entries, sealed.
-use inspect::block::{block_at, check_sum};
-use inspect::head::Sort;
-
-#[derive(Clone, Copy)]
-pub struct Head {
-    pub locations: u8,
-    pub letters: u8,
-    pub initial: u8,
-    pub accepting: u32,
-}
+use inspect::block::{BLOCK, CHECK, check_sum};
+use inspect::head::{Head, Sort};
 
 // A head whose initial location is 0.
-pub fn heading(locations: u8, letters: u8, accepting: u32) -> Head {
+fn heading(sort: Sort, locations: u8, letters: u8, accepting: u32) -> Head {
     Head {
+        sort,
         locations,
         letters,
         initial: 0,
@@ -20,36 +13,44 @@ pub fn heading(locations: u8, letters: u8, accepting: u32) -> Head {
     }
 }
 
-fn sum(bytes: &[u8; 1024], block: u8) -> [u8; 2] {
-    check_sum(block_at(bytes, block)).to_le_bytes()
+pub fn rule(locations: u8, letters: u8, accepting: u32) -> Head {
+    heading(Sort::Rule, locations, letters, accepting)
 }
 
-pub fn sheet(sort: Sort, head: Head, entries: &[u8]) -> [u8; 1024] {
-    let mut bytes = [0; 1024];
-    bytes[0] = 1;
-    bytes[2] = match sort {
-        Sort::Rule => 1,
-        Sort::Model => 2,
-    };
-    bytes[3] = head.locations;
-    bytes[4] = head.letters;
-    bytes[5] = head.initial;
-    let accepting = head.accepting.to_le_bytes();
-    for i in 0..4 {
-        bytes[6 + i] = accepting[i];
-    }
-    bytes[512] = 2;
-    bytes[513] = 1;
-    let length = entries.len().min(495);
-    for i in 0..length {
-        bytes[514 + i] = entries[i];
-    }
-    bytes[514 + length] = 0xff;
-    let [low, high] = sum(&bytes, 0);
-    bytes[510] = low;
-    bytes[511] = high;
-    let [low, high] = sum(&bytes, 1);
-    bytes[1022] = low;
-    bytes[1023] = high;
+pub fn model(locations: u8, letters: u8, accepting: u32) -> Head {
+    heading(Sort::Model, locations, letters, accepting)
+}
+
+fn seal(block: &mut [u8; BLOCK]) {
+    let sum = check_sum(block.as_slice());
+    block[CHECK..BLOCK].copy_from_slice(&sum.to_le_bytes());
+}
+
+fn head_block(head: Head) -> [u8; BLOCK] {
+    let mut block = [0; BLOCK];
+    block[0] = 1;
+    block[2] = u8::from(head.sort);
+    block[3] = head.locations;
+    block[4] = head.letters;
+    block[5] = head.initial;
+    block[6..10].copy_from_slice(&head.accepting.to_le_bytes());
+    seal(&mut block);
+    block
+}
+
+fn entry_block(entries: &[u8]) -> [u8; BLOCK] {
+    let mut block = [0; BLOCK];
+    block[0..2].copy_from_slice(&[2, 1]);
+    let end = 2 + entries.len().min(495);
+    block[2..end].copy_from_slice(&entries[0..end - 2]);
+    block[end] = 0xff;
+    seal(&mut block);
+    block
+}
+
+pub fn sheet(head: Head, entries: &[u8]) -> [u8; 2 * BLOCK] {
+    let mut bytes = [0; 2 * BLOCK];
+    bytes[0..BLOCK].copy_from_slice(&head_block(head));
+    bytes[BLOCK..2 * BLOCK].copy_from_slice(&entry_block(entries));
     bytes
 }

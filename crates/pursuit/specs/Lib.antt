@@ -1,2 +1,1 @@
 pub mod Pursued
-pub mod Tables

@@ -5,7 +5,9 @@ ghost use Rattle.pursuit.specs.declared.halt.Halt.TheVariants.{Refused as Refuse
 use inquiry::refusal::Refusal;
 use std::alloc::AllocError;
 
-#[derive(Clone, Copy)]
+// An enum of its own beside the reasons why a sheet is not loaded: one type for any refusal would have two overlapping
+// `From`s, and each `?` would need a `map_err`.
+#[derive(Clone, Copy, PartialEq, Eq, Debug)]
 pub enum Halt {
     // the inquiry was not opened
     Refused(Refusal),
@@ -13,6 +15,7 @@ pub enum Halt {
     Memory,
 }
 
+// Both by hand, since a clause names the error that a `?` makes, and a derived `From` says nothing of it.
 impl From<Refusal> for Halt {
     ghost from_gives = { λ e r. r ≡ RefusedBy e };
 

@@ -3,6 +3,7 @@ use Rattle.std.specs.Prelude.{◌≡◌, ℕ, ◌^◌, ◌<◌, ◌≤◌, Bool,
 use Rattle.std.proofs.Common.{inl, inr, ⊎_elim, sym, ap, ap₂, subst, ◌∙◌, arith}
 use Rattle.std.specs.List.{range_with_len}
 use Rattle.std.proofs.lemmas.Nat.{pow_below}
+use Rattle.std.proofs.lemmas.Option.{none-some}
 use Rattle.std.proofs.lemmas.Bool.{both_ways, cases_Bool, cases_eq, cond_both, cond-true, cond-false, eqb-true, eqb-false, eq-eqb, ne_eqb, and_parts, and_from}
 use Rattle.formula.specs.Sets.{has, Within}
 use Rattle.formula.proofs.Sets.{has_zero}
@@ -13,8 +14,8 @@ use Rattle.graph.proofs.Members.{in_kept, kept_in, kept_once, products_in, produ
 use Rattle.rule_graph.specs.declared.masks.Masks.{Masks}
 use Rattle.rule_graph.specs.Alternating.{Alternating, Sound}
 use Rattle.rule_graph.specs.RuleGraph.{part, pair, all, unsettled, satisfied, settling, is_pair, pairs, alike, below, Steps, Owes, slot_of, rule_means}
-use Rattle.rule_graph.specs.Sets.{those_small, those_in, in_small, same_set, part_le, part_within, within_part, member_some}
-use Rattle.rule_graph.specs.Pairs.{Pair, pair_is, is_pair_of, in_unsettled, unsettled_in, in_settling, owed_settling, held_settling, settling_held, settling_small, in_satisfied, satisfied_in, satisfied_small}
+use Rattle.rule_graph.specs.Sets.{those_small, those_in, in_small, same_set, part_within, within_part, member_some}
+use Rattle.rule_graph.specs.Pairs.{Pair, pair_is, is_pair_of, owed_small, in_unsettled, unsettled_in, in_settling, owed_settling, held_settling, settling_held, settling_small, in_satisfied, satisfied_in, satisfied_small}
 
 -- below, by members
 pub record Under (a b : Masks) : Type 0 where
@@ -92,14 +93,11 @@ module _ (r : Alternating) (sound : Sound r) where
   abbrev m : Meaning Masks
   m = rule_means r
 
-  owed_small : (p : Masks) → Pair r p → p.owed < 2 ^ r.locations
-  owed_small p q = omega (arith, part_le p.owed p.held (within_part p.owed p.held q.inside), q.small)
-
   pub state_of : (p : Masks) → Pair r p → In p (pairs r)
   state_of p q =
       let n = 2 ^ r.locations in
       kept_in (is_pair r) p (products pair (range_with_len 0 n) (range_with_len 0 n))
-      (products_in pair p.held p.owed (range_with_len 0 n) (range_with_len 0 n) (counting_in 0 n p.held (omega arith) (omega (arith, q.small))) (counting_in 0 n p.owed (omega arith) (omega (arith, owed_small p q))))
+      (products_in pair p.held p.owed (range_with_len 0 n) (range_with_len 0 n) (counting_in 0 n p.held (omega arith) (omega (arith, q.small))) (counting_in 0 n p.owed (omega arith) (omega (arith, owed_small r p q))))
       (is_pair_of r p q)
 
   pub of_state : (p : Masks) → In p (pairs r) → Pair r p
@@ -125,7 +123,7 @@ module _ (r : Alternating) (sound : Sound r) where
       cond_both (i == 0) 0 (unsettled r (all r)) (λ o. Pair r (pair (all r) o)) (λ _. settled_pair (all r) (those_small r.locations (λ _. true))) (λ _. owing_pair (all r) (all r) (those_small r.locations (λ _. true)) (λ l h. h))
 
   owed_all : (p : Masks) → Pair r p → Within p.owed (unsettled r (all r))
-  owed_all p q l h = unsettled_in r (all r) l (in_small r.locations p.owed l (owed_small p q) h) (everything p.owed (owed_small p q) l h) (q.unsettled l h)
+  owed_all p q l h = unsettled_in r (all r) l (in_small r.locations p.owed l (owed_small r p q) h) (everything p.owed (owed_small r p q) l h) (q.unsettled l h)
 
   topped : (p : Masks) → In p (pairs r) → (i : ℕ) × (i < m.tops) × (below p (m.top i) ≡ true)
   topped p i = ⊎_elim settled owing (cases_eq p.owed 0)
@@ -146,7 +144,7 @@ module _ (r : Alternating) (sound : Sound r) where
   owed_is b q =
       same_set (unsettled r (settling r b)) b.owed
       (λ l h. let u = in_unsettled r (settling r b) l h in ⊎_elim (λ o. o) (λ c. absurd (both_ways _ u.1 c.1)) (in_settling r b l u.0))
-      (λ l h. let small = in_small r.locations b.owed l (owed_small b q) h in unsettled_in r (settling r b) l small (owed_settling r b l small h) (q.unsettled l h))
+      (λ l h. let small = in_small r.locations b.owed l (owed_small r b q) h in unsettled_in r (settling r b) l small (owed_settling r b l small h) (q.unsettled l h))
 
   -- what the slots hold of a pair
   slots : (x : ℕ) (b : Masks) → is_pair r b ≡ true → (i : ℕ) → m.slot x b i ≡ slot_of r x b i
@@ -165,9 +163,9 @@ module _ (r : Alternating) (sound : Sound r) where
 
       go : (first second none : Bool) → (unsettled r (satisfied r x (settling r b)) == 0) ≡ none → cond first (Some (pair (satisfied r x (settling r b)) 0)) (cond second (cond none None (Some (pair (satisfied r x b.held) (unsettled r (satisfied r x (settling r b)))))) None) ≡ Some c → Slotted x b c
       go true second none n e = settled (cc)
-      go false true true n e = let z : ◌≡◌ {A = ℕ} 0 1 = cc in absurd (omega arith)
+      go false true true n e = absurd (none-some c e)
       go false true false n e = owing (eqb-false _ 0 n) (cc)
-      go false false none n e = let z : ◌≡◌ {A = ℕ} 0 1 = cc in absurd (omega arith)
+      go false false none n e = absurd (none-some c e)
 
   satisfied_grows : (x s larger : ℕ) → Within s larger → Within (satisfied r x s) (satisfied r x larger)
   satisfied_grows x s larger w l h = let c = in_satisfied r x s l h in satisfied_in r x larger l c.0 (sound.monotone x l s larger w c.1)

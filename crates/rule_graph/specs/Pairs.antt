@@ -1,6 +1,6 @@
 -- What it is to be a pair, by members, and the sets that the graph is made of. Assumes nothing.
 use Rattle.std.specs.Prelude.{◌≡◌, ℕ, ◌^◌, ◌<◌, true, false, not, ◌&&◌, ◌||◌, ◌⊎◌, ◌==◌, nat_lt}
-use Rattle.std.proofs.Common.{inl, inr, ⊎_elim, sym, ap, ◌∙◌}
+use Rattle.std.proofs.Common.{inl, inr, ⊎_elim, sym, ap, ◌∙◌, arith}
 use Rattle.std.specs.Int.Bits.{bit_and}
 use Rattle.std.proofs.lemmas.Bool.{both_ways, cases_Bool, lt-ltb, ltb-true, eqb-true, eq-eqb, and_parts, and_from, not-true, not_from_false, or_cases, or_left, or_right}
 use Rattle.formula.specs.Sets.{has, Within}
@@ -8,7 +8,7 @@ use Rattle.formula.proofs.Sets.{has_zero, has_and}
 use Rattle.rule_graph.specs.declared.masks.Masks.{Masks}
 use Rattle.rule_graph.specs.Alternating.{Alternating}
 use Rattle.rule_graph.specs.RuleGraph.{part, unsettled, settling, satisfied, is_pair}
-use Rattle.rule_graph.specs.Sets.{those_small, in_those, those_in, same_set, part_within, within_part}
+use Rattle.rule_graph.specs.Sets.{those_small, in_those, those_in, same_set, part_le, part_within, within_part}
 
 pub record Pair (r : Alternating) (p : Masks) : Type 0 where
   pub small : p.held < 2 ^ r.locations
@@ -36,6 +36,9 @@ module _ (r : Alternating) (p : Masks) where
       and_from _ _ (lt-ltb _ _ q.small) (and_from _ _ (within_part _ _ q.inside) (eq-eqb _ 0 disjoint))
 
 module _ (r : Alternating) where
+  pub owed_small : (p : Masks) → Pair r p → p.owed < 2 ^ r.locations
+  owed_small p q = omega (arith, part_le p.owed p.held (within_part p.owed p.held q.inside), q.small)
+
   pub in_unsettled : (s l : ℕ) → has (unsettled r s) l ≡ true → (has s l ≡ true) × (has r.accepting l ≡ false)
   in_unsettled s l h = let c = and_parts (has s l) (not (has r.accepting l)) (in_those r.locations (λ i. has s i && not (has r.accepting i)) l h).1 in (c.0, not-true _ c.1)
 

@@ -1,16 +1,16 @@
 // A rule as a graph: a state is a held set of locations and an owed one, and a slot is found without listing the states.
 #![tactic(auto)]
 
-ghost use Rattle.std.specs.Prelude.{◌≡◌, ◌^◌, ◌<◌};
 ghost use Rattle.sheet.specs.Rules.{rule_content};
 ghost use Rattle.rule_graph.specs.Admission.{Admission};
 ghost use Rattle.rule_graph.specs.Alternating.{alternating};
-ghost use Rattle.rule_graph.specs.RuleGraph.{owing_slot, rule_means};
+ghost use Rattle.rule_graph.specs.RuleGraph.{rule_means};
 ghost use Rattle.rule_graph.specs.Laws.{rule_lawful};
 ghost use Rattle.rule_graph.specs.Words.{valid, content_sound};
 
 use graph::Graph;
-use locations::{everything, satisfied, unsettled};
+use layout::source::Source;
+use locations::{everything, unsettled, within};
 use masks::Masks;
 use pair::Pair;
 use sheet::rule::Rule;
@@ -32,21 +32,6 @@ impl RuleGraph {
     pub fn admits(&self)
         ensures { Admission (alternating (rule_content self.now.rule)) }
     {}
-
-    // Holding all that the held set satisfies, and owing what is not accepting of what can be settled, unless that is nothing.
-    fn owing(&self, letter: u8, held: u32, settled: u32) -> Option<Masks>
-        requires { settled < 2 ^ (rule_content self.now.rule).head.locations }
-        ensures { result ≡ owing_slot (alternating (rule_content self.now.rule)) letter held settled }
-    {
-        let owed = unsettled(&self.rule, settled);
-        if owed == 0 {
-            return None;
-        }
-        Some(Masks {
-            held: satisfied(&self.rule, letter, held),
-            owed,
-        })
-    }
 }
 
 impl Graph for RuleGraph {
@@ -72,7 +57,7 @@ impl Graph for RuleGraph {
     }
 
     fn below(&self, a: Masks, b: Masks) -> bool {
-        a.held & b.held == a.held && a.owed & b.owed == a.owed && a.settled() == b.settled()
+        within(a.held, b.held) && within(a.owed, b.owed) && a.settled() == b.settled()
     }
 
     fn tops(&self) -> u32 {
@@ -98,15 +83,6 @@ impl Graph for RuleGraph {
     }
 
     fn slot(&self, letter: u8, b: Masks, i: u32) -> Option<Masks> {
-        let pair = Pair::of(&self.rule, b)?;
-        let settled = satisfied(&self.rule, letter, pair.settling(&self.rule));
-        match i {
-            0 => Some(Masks {
-                held: settled,
-                owed: 0,
-            }),
-            1 => self.owing(letter, pair.held, settled),
-            _ => None,
-        }
+        Pair::of(&self.rule, b)?.slot(letter, i)
     }
 }

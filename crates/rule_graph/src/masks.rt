@@ -1,7 +1,7 @@
 // A state of a rule's graph as it stands in tables and between calls: two plain masks of locations.
 ghost use Rattle.std.specs.Prelude.{◌≡◌, ◌==◌};
 
-#[derive(Clone, Copy)]
+#[derive(Clone, Copy, Debug, PartialEq, Eq)]
 pub struct Masks {
     pub held: u32,
     pub owed: u32,

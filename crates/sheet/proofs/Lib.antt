@@ -1,4 +1,3 @@
 pub mod Denoteds
 pub mod Modelled
 pub mod Satisfied
-pub mod Stored

@@ -1,25 +1,30 @@
--- What the fields of a rule or a model stand for: the content of a sheet of its sort. Assumes nothing.
-use Rattle.std.specs.Prelude.{ℕ, ◌^◌, Bool, List, nat_lt}
+-- What rules and models have alike. Assumes nothing.
+use Rattle.std.specs.Prelude.{ℕ, ◌^◌, Bool, List, [], ◌∷◌, nat_lt}
+use Rattle.formula.specs.declared.token.Token.{Token}
+use Rattle.inspect.specs.declared.head.Asked.{Asked}
+use Rattle.inspect.specs.declared.head.Asked.TheVariants as asked
 use Rattle.inspect.specs.declared.head.Head.{Head}
 use Rattle.inspect.specs.declared.head.Sort.{Sort}
 use Rattle.inspect.specs.declared.head.Sort.TheVariants as sort
 use Rattle.inspect.specs.Denotes.{Content}
-use Rattle.layout.specs.Successors.{with_successors}
 use Rattle.layout.specs.Valid.{every}
-use Rattle.sheet.specs.declared.table.Table.{Table}
-use Rattle.sheet.specs.Tables.{formulas}
 
 abbrev pub head_of : Sort → ℕ → ℕ → ℕ → ℕ → Head
 head_of s locations letters initial accepting = record { sort = s; locations = locations; letters = letters; initial = initial; accepting = accepting }
 
--- a rule keeps exactly the entries and tokens of its sheet
-abbrev pub rule_of : ℕ → ℕ → ℕ → ℕ → Table → Content
-rule_of locations letters initial accepting table = record { head = head_of sort.Rule locations letters initial accepting; formulas = formulas table }
+-- formulas under a head
+abbrev pub with_formulas : Head → List (List Token) → Content
+with_formulas h fs = record { head = h; formulas = fs }
 
--- a model keeps sets of successors, each as the rising spelling of its members
-abbrev pub model_of : ℕ → ℕ → ℕ → ℕ → List ℕ → Content
-model_of locations letters initial accepting successors = with_successors (head_of sort.Model locations letters initial accepting) successors
+-- one location, one letter, initial 0 and nothing else
+abbrev pub fresh : Sort → Content
+fresh s = with_formulas (head_of s 1 1 0 0) ([] ∷ [])
 
 -- every set has only locations of the model
 abbrev pub small : ℕ → List ℕ → Bool
 small locations sets = every (λ m. nat_lt m (2 ^ locations)) sets
+
+-- who asks for this sort alone
+abbrev pub asked_for : Sort → Asked
+asked_for sort.Rule = asked.Rule
+asked_for sort.Model = asked.Model

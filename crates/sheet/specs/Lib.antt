@@ -1,9 +1,7 @@
 pub mod Automata
 pub mod Either
 pub mod Errors
-pub mod Founds
 pub mod Loads
 pub mod Models
 pub mod Rules
-pub mod Spans
 pub mod Tables

@@ -1,21 +1,24 @@
 -- What a rule holds. Assumes nothing.
-use Rattle.std.specs.Prelude.{◌≡◌, ℕ, ◌+◌, ◌*◌, Bool, false, cond, ◌&&◌, List, [], ◌∷◌, nat_lt, slice_index_or}
+use Rattle.std.specs.Prelude.{◌≡◌, ℕ, ◌+◌, ◌*◌, Bool, false, cond, ◌&&◌, List, [], ◌∷◌, Vec, nat_lt, slice_index_or}
+use Rattle.std.specs.declared.alloc.Global.{Global}
 use Rattle.std.specs.Option.{unwrap_or}
 use Rattle.formula.specs.declared.token.Token.{Token}
 use Rattle.formula.specs.Formulas.{Formula, never}
 use Rattle.formula.specs.Machine.{Spells, evaluated}
 use Rattle.formula.specs.Sets.{has}
-use Rattle.inspect.specs.declared.head.Sort.{Sort}
 use Rattle.inspect.specs.Denotes.{Content}
-use Rattle.sheet.specs.declared.rule.Rule.{Rule}
-use Rattle.sheet.specs.Automata.{head_of, rule_of}
+use Rattle.sheet.specs.declared.headed.Headed.{Headed}
+use Rattle.sheet.specs.contracts.rule.TableCells.TheImpl.{ghosts}
+use Rattle.sheet.specs.Automata.{with_formulas}
+use Rattle.sheet.specs.Tables.{formulas}
 
+-- a head with a table of formulas
+abbrev pub Rule : Type 0
+Rule = Headed (Vec (Vec Token Global) Global) ghosts
+
+-- a rule keeps exactly the entries and tokens of its sheet
 abbrev pub rule_content : Rule → Content
-rule_content r = rule_of r.locations r.letters r.initial r.accepting r.table
-
--- one location, one letter, initial 0 and nothing else
-abbrev pub fresh : Sort → Content
-fresh s = record { head = head_of s 1 1 0 0; formulas = [] ∷ [] }
+rule_content r = with_formulas r.head (formulas r.cells)
 
 -- a rule is, entry by entry and token by token, what its sheet denotes
 abbrev pub IsRule : Rule → Content → Type 0

@@ -2,15 +2,13 @@
 ghost use Rattle.sheet.specs.Either.{Read};
 
 use crate::error::LoadError;
+use crate::faultless::Faultless;
 use crate::model::Model;
-use crate::models::read_model;
 use crate::rule::Rule;
-use crate::rules::read_rule;
 use inspect::head::{Asked, Sort};
-use inspect::inspect;
 use std::alloc::Global;
 
-#[derive(Drop)]
+#[derive(PartialEq, Debug, Drop)]
 pub enum Automaton {
     Rule(Rule),
     Model(Model),
@@ -20,9 +18,9 @@ pub enum Automaton {
 pub fn load(heap: Global, sheet: &[u8]) -> Result<Automaton, LoadError>
     ensures { Read sheet.now result }
 {
-    let head = inspect(Asked::Either, sheet)?;
-    match head.sort {
-        Sort::Rule => Ok(Automaton::Rule(read_rule(heap, head, sheet)?)),
-        Sort::Model => Ok(Automaton::Model(read_model(heap, head, sheet)?)),
+    let sheet = Faultless::of(Asked::Either, sheet)?;
+    match sheet.head.sort {
+        Sort::Rule => Ok(Automaton::Rule(Rule::read(heap, sheet)?)),
+        Sort::Model => Ok(Automaton::Model(Model::read(heap, sheet)?)),
     }
 }

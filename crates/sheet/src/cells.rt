@@ -1,69 +1,55 @@
-// The cells of a table: filled from the entries of a sheet, and read.
-ghost use Rattle.std.specs.Prelude.{◌≡◌, ◌≤◌, List, [], ◌++◌, map, length, replicate, IfOk, vec_len, OnOk, slice_index_or, slice_set};
-ghost use Rattle.inspect.specs.Contents.{read};
-ghost use Rattle.sheet.specs.Tables.{formulas};
+// What stands under a head, in a cell for each location and letter: formulas in a rule, sets of successors in a model.
+ghost use Rattle.std.specs.Prelude.{◌≡◌, Bool, true, List, [], length, IfOk, slice_index_or};
+ghost use Rattle.formula.specs.declared.token.Token.{Token};
+ghost use Rattle.formula.specs.declared.token.Token.TheVariants.{False};
+ghost use Rattle.inspect.specs.declared.head.Head.{Head};
+ghost use Rattle.inspect.specs.declared.head.Sort.{Sort};
+ghost use Rattle.inspect.specs.Contents.{contents};
+ghost use Rattle.inspect.specs.Denotes.{Content};
+ghost use Rattle.layout.specs.Valid.{Valid, is_valid};
+ghost use Rattle.sheet.specs.Automata.{fresh, with_formulas};
 
-use crate::span::Span;
-use crate::table::Table;
+use crate::faultless::Faultless;
 use formula::token::Token;
+use inspect::head::{Head, Sort};
 use std::alloc::{AllocError, Global};
 
-// The tokens that some bytes stand for, behind those that are there.
-fn append(tokens: &mut Vec<Token>, bytes: &[u8]) -> Result<(), AllocError>
-    ensures longer { vec_len tokens.old ≤ vec_len tokens.new }
-    ensures items { OnOk result (tokens.new.items ≡ tokens.old.items ++ map read bytes.now) }
-{
-    for b in bytes {
-        tokens.push(Token::read(*b).unwrap_or(Token::False))?;
-    }
-    Ok(())
-}
+pub trait Cells: Drop {
+    // The sort of their sheets.
+    ghost sort: { Sort };
 
-impl Table {
-    // No tokens in any of these cells.
-    pub(crate) fn blank(heap: Global, cells: usize) -> Result<Table, AllocError>
-        ensures { IfOk result (λ t. formulas t ≡ replicate cells []) }
-    {
-        let spans = vec![in heap; Span {
-            start: 0,
-            length: 0
-        }; cells]?;
-        Ok(Table {
-            spans,
-            tokens: Vec::new(heap),
-        })
-    }
+    // The formulas that are written for them under a head.
+    ghost formulas: { Head → Self → List (List Token) };
 
-    // These tokens in one cell, if there is such a cell.
-    pub(crate) fn put(&mut self, cell: usize, bytes: &[u8]) -> Result<(), AllocError>
-        ensures { OnOk result (formulas self.new ≡ slice_set (formulas self.old) cell (map read bytes.now)) }
-    {
-        let start = self.tokens.len();
-        append(&mut self.tokens, bytes)?;
-        if cell < self.spans.len() {
-            self.spans[cell] = Span {
-                start,
-                length: bytes.len(),
-            };
-        }
-        Ok(())
-    }
+    // Whether they name locations of the head alone.
+    ghost fits: { Head → Self → Bool };
 
-    // How many cells there are.
-    pub(crate) fn cells(&self) -> usize
-        ensures { result ≡ length (formulas self.now) }
-    {
-        self.spans.len()
-    }
+    // What they are, under a head, of what a sheet denotes.
+    ghost Holds: { Head → Self → Content → Type 0 };
 
-    // The tokens of a cell: none where there is no such cell.
-    pub(crate) fn formula(&self, cell: usize) -> &[Token]
-        ensures { result.now ≡ slice_index_or (formulas self.now) cell [] }
-    {
-        if cell >= self.spans.len() {
-            return &[];
-        }
-        let Span { start, length } = self.spans[cell];
-        &self.tokens[start..start + length]
-    }
+    fn sort() -> Sort
+        ensures { result ≡ sort };
+
+    // One cell, with nothing in it.
+    fn blank(heap: Global) -> Result<Self, AllocError>
+        ensures { IfOk result (λ x. Holds (fresh sort).head x (fresh sort)) };
+
+    // Those of a sheet.
+    fn read(heap: Global, sheet: Faultless) -> Result<Self, AllocError>
+        ensures { IfOk result (λ x. Holds sheet.entry.head x (contents sheet.entry.bytes.now)) };
+
+    // How many tokens are written for a cell: none past the last.
+    fn length(&self, head: Head, cell: usize) -> usize
+        ensures { result ≡ length (slice_index_or (formulas head self.now) cell []) };
+
+    // Token i of these: past their end, false.
+    fn token(&self, head: Head, cell: usize, i: usize) -> Token
+        ensures { result ≡ slice_index_or (slice_index_or (formulas head self.now) cell []) i False };
+
+    // What holds of what a sheet can hold can be written, names locations of the head alone, and is what is read back.
+    ghost written: { (h : Head) (x : Self) (c : Content) → Holds h x c → Valid c → is_valid (with_formulas h (formulas h x)) ≡ true };
+
+    ghost fitting: { (h : Head) (x : Self) (c : Content) → Holds h x c → Valid c → fits h x ≡ true };
+
+    ghost own: { (h : Head) (x : Self) → fits h x ≡ true → Holds h x (with_formulas h (formulas h x)) };
 }

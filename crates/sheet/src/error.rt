@@ -6,7 +6,9 @@ ghost use Rattle.sheet.specs.declared.error.LoadError.TheVariants.{Refused as Re
 use inspect::fault::{BlockFault, Refusal};
 use std::alloc::AllocError;
 
-#[derive(Clone, Copy)]
+// An enum of its own, though a refusal or want of memory is also what stops elsewhere: one type for any refusal would
+// have two overlapping `From`s, and each `?` would need a `map_err`.
+#[derive(Clone, Copy, PartialEq, Eq, Debug)]
 pub enum LoadError {
     // the sheet's first fault
     Refused(BlockFault),
@@ -14,6 +16,7 @@ pub enum LoadError {
     Memory,
 }
 
+// Both by hand, since clauses name the error that a `?` makes, and a derived `From` says nothing of it.
 impl From<BlockFault> for LoadError {
     ghost from_gives = { λ f r. r ≡ RefusedBy f };
 

@@ -4,11 +4,12 @@
 pub mod automaton;
 mod cells;
 pub mod error;
+mod faultless;
 mod filling;
+mod headed;
+mod loading;
 pub mod model;
-pub mod models;
-mod reading;
+mod numbers;
 pub mod rule;
-pub mod rules;
-mod span;
+mod sets;
 mod table;

@@ -1,137 +1,55 @@
 // What a rule or a model holds, line by line, and whether its sheet written and read again is the same.
 use anyhow::anyhow;
 use formula::token::Token;
-use formula::union::{spelling_length, spelling_token};
 use inspect::MOST_BLOCKS;
 use inspect::block::BLOCK;
+use inspect::head::Head;
+use layout::source::Source;
 use layout::write::WriteFault;
 use sheet::automaton::{Automaton, load};
-use sheet::model::Model;
-use sheet::rule::Rule;
 use std::alloc::{AllocError, Global};
 use words::infix::infix;
 use words::set::members;
 
-// What the head of a sheet says of either sort.
-#[derive(Clone, Copy)]
-pub struct Summary {
-    locations: u8,
-    letters: u8,
-    initial: u8,
-    accepting: u32,
-}
-
-impl Summary {
-    pub(crate) fn of_rule(rule: &Rule) -> Summary {
-        Summary {
-            locations: rule.locations(),
-            letters: rule.letters(),
-            initial: rule.initial(),
-            accepting: rule.accepting(),
-        }
-    }
-
-    pub(crate) fn of_model(model: &Model) -> Summary {
-        Summary {
-            locations: model.locations(),
-            letters: model.letters(),
-            initial: model.initial(),
-            accepting: model.accepting(),
-        }
-    }
-
-    fn same(self, other: Summary) -> bool {
-        self.locations == other.locations
-            && self.letters == other.letters
-            && self.initial == other.initial
-            && self.accepting == other.accepting
-    }
-}
-
-pub(crate) fn show_head(
-    rt: &HostRuntime,
-    blocks: usize,
-    sort: &str,
-    head: Summary,
-) -> anyhow::Result<()> {
-    println!(rt; "blocks read, each with its check: {blocks}")?;
-    let accepting = members(rt.alloc(), head.locations, head.accepting)?;
-    let locations = head.locations;
-    let letters = head.letters;
-    let initial = head.initial;
+fn show_head(rt: &HostRuntime, head: Head) -> anyhow::Result<()> {
+    let Head {
+        sort,
+        locations,
+        letters,
+        initial,
+        accepting,
+    } = head;
+    let accepting = members(rt.alloc(), locations, accepting)?;
     println!(rt;
         "sort {sort}, locations {locations}, letters {letters}, initial {initial}, accepting {accepting}"
     )?;
     Ok(())
 }
 
-fn show_entry(rt: &HostRuntime, location: u8, letter: u8, tokens: &[Token]) -> anyhow::Result<()> {
-    if let Some(formula) = infix(rt.alloc(), tokens)? {
-        println!(rt; "{location} under {letter}: {formula}")?;
-    }
-    Ok(())
+// The tokens that are written for a cell.
+fn tokens<S: Source>(heap: Global, source: &S, cell: usize) -> Result<Vec<Token>, AllocError> {
+    (0..source.length(cell))
+        .map(|i| source.token(cell, i))
+        .collect(heap)
 }
 
-pub(crate) fn show_rule(rt: &HostRuntime, rule: &Rule) -> anyhow::Result<()> {
-    for location in 0..rule.locations() {
-        for letter in 0..rule.letters() {
-            show_entry(rt, location, letter, rule.formula(location, letter))?;
-        }
-    }
-    Ok(())
-}
-
-// A set of successors as the formula that is written for it.
-fn spelling(heap: Global, locations: u8, set: u32) -> Result<Vec<Token>, AllocError> {
-    let mut tokens = Vec::new(heap);
-    for i in 0..spelling_length(locations, set) {
-        tokens.push(spelling_token(locations, set, i))?;
-    }
-    Ok(tokens)
-}
-
-pub(crate) fn show_model(rt: &HostRuntime, model: &Model) -> anyhow::Result<()> {
-    for location in 0..model.locations() {
-        for letter in 0..model.letters() {
-            let tokens = spelling(
-                rt.alloc(),
-                model.locations(),
-                model.successors(location, letter),
-            )?;
-            show_entry(rt, location, letter, tokens.as_slice())?;
-        }
-    }
-    Ok(())
-}
-
-fn same_rule(a: &Rule, b: &Rule) -> bool {
-    for location in 0..a.locations() {
-        for letter in 0..a.letters() {
-            if a.formula(location, letter) != b.formula(location, letter) {
-                return false;
+fn show_entries<S: Source>(rt: &HostRuntime, source: &S) -> anyhow::Result<()> {
+    let head = source.head();
+    for location in 0..head.locations {
+        for letter in 0..head.letters {
+            let cell = usize::from(location) * usize::from(head.letters) + usize::from(letter);
+            let tokens = tokens(rt.alloc(), source, cell)?;
+            if let Some(formula) = infix(rt.alloc(), tokens.as_slice())? {
+                println!(rt; "{location} under {letter}: {formula}")?;
             }
         }
     }
-    Summary::of_rule(a).same(Summary::of_rule(b))
+    Ok(())
 }
 
-fn same_model(a: &Model, b: &Model) -> bool {
-    for location in 0..a.locations() {
-        for letter in 0..a.letters() {
-            if a.successors(location, letter) != b.successors(location, letter) {
-                return false;
-            }
-        }
-    }
-    Summary::of_model(a).same(Summary::of_model(b))
-}
-
-fn same(a: &Automaton, b: &Automaton) -> bool {
-    match (a, b) {
-        (Automaton::Rule(a), Automaton::Rule(b)) => same_rule(a, b),
-        (Automaton::Model(a), Automaton::Model(b)) => same_model(a, b),
-        _ => false,
-    }
+pub(crate) fn show<S: Source>(rt: &HostRuntime, source: &S) -> anyhow::Result<()> {
+    show_head(rt, source.head())?;
+    show_entries(rt, source)
 }
 
 fn write(automaton: &Automaton, out: &mut [u8]) -> Result<usize, WriteFault> {
@@ -150,7 +68,7 @@ pub(crate) fn round_trip(rt: &HostRuntime, automaton: &Automaton) -> anyhow::Res
     let Ok(again) = load(rt.alloc(), out.as_slice()) else {
         return Err(anyhow!("what was written is not read again"));
     };
-    let verdict = if same(automaton, &again) {
+    let verdict = if again == *automaton {
         "the same"
     } else {
         "another"

@@ -71,10 +71,6 @@ impl Graph for Chain {
             return None;
         }
         let a = i as u8;
-        if moves(letter, a) && self.below(a.saturating_sub(1), b) {
-            Some(a)
-        } else {
-            None
-        }
+        (moves(letter, a) && self.below(a.saturating_sub(1), b)).then_some(a)
     }
 }

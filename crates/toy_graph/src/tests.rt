@@ -6,6 +6,8 @@ use antichain::add;
 use antichain::fill::Fill;
 use inquiry::record::Inquiry;
 use inquiry::refusal::Refusal;
+use inquiry::report::Report;
+use inquiry::standing::Standing;
 use std::process::Abort;
 use std::test::Fail;
 
@@ -19,20 +21,22 @@ struct Tables {
     work: [u8; LONG],
 }
 
+impl Tables {
+    fn fresh() -> Tables {
+        Tables {
+            outer: [9; LONG],
+            inner: [9; LONG],
+            work: [9; LONG],
+        }
+    }
+}
+
 // The first bytes of each table are lent, as many as a call says.
 #[derive(Drop)]
 struct Trial {
     graph: Chain,
     inquiry: Inquiry,
     tables: Tables,
-}
-
-// The refusal's number, and 0 where the call was accepted.
-fn number(res: Result<(), Refusal>) -> u8 {
-    match res {
-        Ok(()) => 0,
-        Err(refusal) => refusal.number(),
-    }
 }
 
 fn length(n: usize) -> usize
@@ -46,198 +50,286 @@ fn front(table: &[u8; LONG], n: usize) -> &[u8] {
 }
 
 impl Trial {
-    fn open(stuck: bool, lent: [usize; 3], limit: u32) -> Result<Trial, u8> {
+    // Outer is as before where an opening is turned down.
+    fn open(rt: &impl Abort, stuck: bool, lent: [usize; 3], limit: u32) -> Result<Trial, Refusal> {
         let graph = Chain { stuck };
         let mut outer = [9; LONG];
-        let inner = [9; LONG];
-        let work = [9; LONG];
+        let free = [9; LONG];
         let opened = Inquiry::open(
             &graph,
             &mut outer[0..length(lent[0])],
-            front(&inner, lent[1]),
-            front(&work, lent[2]),
+            front(&free, lent[1]),
+            front(&free, lent[2]),
             limit,
         );
-        match opened {
-            Ok(inquiry) => Ok(Trial {
-                graph,
-                inquiry,
-                tables: Tables { outer, inner, work },
-            }),
-            Err(refusal) if outer == inner => Err(refusal.number()),
-            Err(_) => Err(0),
-        }
+        assert!(rt; opened.is_ok() || outer == free);
+        Ok(Trial {
+            graph,
+            inquiry: opened?,
+            tables: Tables {
+                outer,
+                inner: free,
+                work: free,
+            },
+        })
     }
 
-    fn run(&mut self, lent: [usize; 3], budget: u32) -> u8 {
-        number(
-            self.inquiry.run(
-                &self.graph,
-                &mut self.tables.outer[0..length(lent[0])],
-                &mut self.tables.inner[0..length(lent[1])],
-                &mut self.tables.work[0..length(lent[2])],
-                budget,
-            ),
+    fn run(&mut self, lent: [usize; 3], budget: u32) -> Result<(), Refusal> {
+        self.inquiry.run(
+            &self.graph,
+            &mut self.tables.outer[0..length(lent[0])],
+            &mut self.tables.inner[0..length(lent[1])],
+            &mut self.tables.work[0..length(lent[2])],
+            budget,
         )
     }
 
-    fn widen(&mut self, old: [usize; 2], lent: [usize; 3]) -> u8 {
-        let tables = self.tables;
-        let mut outer = [9; LONG];
-        let mut inner = [9; LONG];
-        let work = [9; LONG];
-        let answer = number(
-            self.inquiry.widen::<Chain>(
-                front(&tables.outer, old[0]),
-                front(&tables.inner, old[1]),
-                &mut outer[0..length(lent[0])],
-                &mut inner[0..length(lent[1])],
-                front(&work, lent[2]),
-            ),
+    // Also the new tables of a widening that is turned down are as before.
+    fn widen(&mut self, rt: &impl Abort, old: [usize; 2], lent: [usize; 3]) -> Result<(), Refusal> {
+        let mut longer = Tables::fresh();
+        let widened = self.inquiry.widen::<Chain>(
+            front(&self.tables.outer, old[0]),
+            front(&self.tables.inner, old[1]),
+            &mut longer.outer[0..length(lent[0])],
+            &mut longer.inner[0..length(lent[1])],
+            front(&longer.work, lent[2]),
         );
-        if answer == 0 {
-            self.tables = Tables { outer, inner, work };
-        } else if outer != work || inner != work {
-            return 0;
+        match widened {
+            Ok(()) => self.tables = longer,
+            Err(_) => assert!(rt; longer == Tables::fresh()),
         }
-        answer
+        widened
     }
 
-    // Standing, round, sweep, count, limit, places, and how many states outer and inner hold.
-    fn told(&self) -> [u32; 8] {
-        let r = self.inquiry.report::<Chain>();
-        [
-            r.standing as u32,
-            r.round,
-            r.sweep,
-            r.count,
-            r.limit,
-            r.places as u32,
-            r.outer as u32,
-            r.inner as u32,
-        ]
+    fn report(&self) -> Report {
+        self.inquiry.report::<Chain>()
+    }
+}
+
+// What a new opening in so many places reports.
+fn opened(limit: u32, places: usize) -> Report {
+    Report {
+        standing: Standing::Running,
+        round: 0,
+        sweep: 0,
+        count: 0,
+        limit,
+        places,
+        outer: 2,
+        inner: 0,
     }
 }
 
 #[test]
 fn goes_on_in_longer_tables(rt: HostRuntime) -> Result<(), Fail> {
-    let mut t = Trial::open(false, [3; 3], 100)?;
-    assert_eq!(rt; t.told(), [0, 0, 0, 0, 100, 3, 2, 0]);
+    let mut t = Trial::open(&rt, false, [3; 3], 100)?;
+    let new = opened(100, 3);
+    assert_eq!(rt; t.report(), new);
     assert!(rt; &t.tables.outer[0..3] == [4, 0, 9].as_slice());
-    assert_eq!(rt; t.run([3; 3], 100), 0);
-    assert_eq!(rt; t.told(), [3, 0, 3, 3, 100, 3, 2, 3]);
+    t.run([3; 3], 100)?;
+    let full = Report {
+        standing: Standing::Full,
+        sweep: 3,
+        count: 3,
+        inner: 3,
+        ..new
+    };
+    assert_eq!(rt; t.report(), full);
     assert!(rt; &t.tables.outer[0..2] == [4, 0].as_slice());
     assert!(rt; &t.tables.inner[0..3] == [0, 1, 2].as_slice());
-    assert_eq!(rt; t.widen([3; 2], [5; 3]), 0);
-    assert_eq!(rt; t.told(), [0, 0, 3, 3, 100, 5, 2, 3]);
+    t.widen(&rt, [3; 2], [5; 3])?;
+    let wider = Report {
+        standing: Standing::Running,
+        places: 5,
+        ..full
+    };
+    assert_eq!(rt; t.report(), wider);
     assert!(rt; &t.tables.outer[0..2] == [4, 0].as_slice());
     assert!(rt; &t.tables.inner[0..3] == [0, 1, 2].as_slice());
-    assert_eq!(rt; t.run([5; 3], 100), 0);
-    assert_eq!(rt; t.told(), [1, 2, 0, 10, 100, 5, 4, 0]);
+    t.run([5; 3], 100)?;
+    let ended = Report {
+        standing: Standing::Possible,
+        round: 2,
+        sweep: 0,
+        count: 10,
+        outer: 4,
+        inner: 0,
+        ..wider
+    };
+    assert_eq!(rt; t.report(), ended);
     assert!(rt; &t.tables.outer[0..4] == [0, 1, 2, 3].as_slice());
     Ok(())
 }
 
 // Opened with five places and run, at once or by single sweeps, with a budget of 0 before and after.
-fn ended(rt: &impl Abort, stuck: bool, limit: u32, budget: u32) -> Result<[u32; 8], Fail> {
-    let mut t = Trial::open(stuck, [5; 3], limit)?;
-    assert_eq!(rt; t.run([5; 3], 0), 0);
-    assert_eq!(rt; t.told(), [0, 0, 0, 0, limit, 5, 2, 0]);
+fn ended(rt: &impl Abort, stuck: bool, limit: u32, budget: u32) -> Result<Report, Fail> {
+    let mut t = Trial::open(rt, stuck, [5; 3], limit)?;
+    t.run([5; 3], 0)?;
+    assert_eq!(rt; t.report(), opened(limit, 5));
     for _ in 0..12 {
-        let before = t.tables;
-        let told = t.told();
-        let answer = t.run([5; 3], budget);
-        assert!(rt; answer == if told[0] == 0 { 0 } else { 16 });
-        assert!(rt; answer == 0 || t.told() == told && t.tables == before);
+        match t.report().standing {
+            Standing::Running => t.run([5; 3], budget)?,
+            _ => refused_run(rt, &mut t, [5; 3], budget, Refusal::Stopped),
+        }
     }
-    assert_eq!(rt; t.run([5; 3], 0), 16);
-    Ok(t.told())
+    refused_run(rt, &mut t, [5; 3], 0, Refusal::Stopped);
+    Ok(t.report())
 }
 
 #[test]
 fn ends(rt: HostRuntime) -> Result<(), Fail> {
+    let possible = Report {
+        standing: Standing::Possible,
+        round: 2,
+        count: 10,
+        outer: 4,
+        ..opened(100, 5)
+    };
+    let impossible = Report {
+        standing: Standing::Impossible,
+        round: 1,
+        count: 5,
+        outer: 4,
+        ..opened(100, 5)
+    };
+    let possible_lost = Report {
+        standing: Standing::Spent,
+        round: 1,
+        sweep: 4,
+        count: 9,
+        outer: 4,
+        inner: 4,
+        ..opened(9, 5)
+    };
+    let impossible_lost = Report {
+        standing: Standing::Spent,
+        sweep: 4,
+        count: 4,
+        inner: 4,
+        ..opened(4, 5)
+    };
     let ends = [
-        (false, 100, [1, 2, 0, 10, 100, 5, 4, 0]),
-        (false, 10, [1, 2, 0, 10, 10, 5, 4, 0]),
-        (false, 9, [4, 1, 4, 9, 9, 5, 4, 4]),
-        (true, 100, [2, 1, 0, 5, 100, 5, 4, 0]),
-        (true, 5, [2, 1, 0, 5, 5, 5, 4, 0]),
-        (true, 4, [4, 0, 4, 4, 4, 5, 2, 4]),
+        (false, possible),
+        (
+            false,
+            Report {
+                limit: 10,
+                ..possible
+            },
+        ),
+        (false, possible_lost),
+        (true, impossible),
+        (
+            true,
+            Report {
+                limit: 5,
+                ..impossible
+            },
+        ),
+        (true, impossible_lost),
     ];
-    for (stuck, limit, end) in ends {
-        assert_eq!(rt; ended(&rt, stuck, limit, u32::MAX)?, end);
-        assert_eq!(rt; ended(&rt, stuck, limit, 1)?, end);
+    for (stuck, end) in ends {
+        assert_eq!(rt; ended(&rt, stuck, end.limit, u32::MAX)?, end);
+        assert_eq!(rt; ended(&rt, stuck, end.limit, 1)?, end);
     }
     Ok(())
 }
 
-// Also the tables of a trial that is turned down are as before.
-fn refused_run(rt: &impl Abort, t: &mut Trial, lent: [usize; 3], budget: u32, expected: u8) {
-    let told = t.told();
+// Also the record and the tables of a trial that is turned down are as before.
+fn refused_run(rt: &impl Abort, t: &mut Trial, lent: [usize; 3], budget: u32, expected: Refusal) {
+    let report = t.report();
     let before = t.tables;
-    assert_eq!(rt; t.run(lent, budget), expected);
-    assert!(rt; t.told() == told && t.tables == before);
+    assert_eq!(rt; t.run(lent, budget), Err(expected));
+    assert!(rt; t.report() == report && t.tables == before);
 }
 
-fn refused_widen(rt: &impl Abort, t: &mut Trial, old: [usize; 2], lent: [usize; 3], expected: u8) {
-    let told = t.told();
+fn refused_widen(
+    rt: &impl Abort,
+    t: &mut Trial,
+    old: [usize; 2],
+    lent: [usize; 3],
+    expected: Refusal,
+) {
+    let report = t.report();
     let before = t.tables;
-    assert_eq!(rt; t.widen(old, lent), expected);
-    assert!(rt; t.told() == told && t.tables == before);
+    assert_eq!(rt; t.widen(rt, old, lent), Err(expected));
+    assert!(rt; t.report() == report && t.tables == before);
 }
 
 #[test]
 fn turns_down(rt: HostRuntime) -> Result<(), Fail> {
     let openings = [
-        ([0, 0, 0], 0, 12),
-        ([3, 2, 3], 0, 12),
-        ([2, 2, 3], 0, 12),
-        ([4097, 4097, 4097], 9, 12),
-        ([2, 2, 2], 0, 13),
-        ([2, 2, 2], 9, 14),
+        ([0, 0, 0], 0, Refusal::Tables),
+        ([3, 2, 3], 0, Refusal::Tables),
+        ([2, 2, 3], 0, Refusal::Tables),
+        ([4097, 4097, 4097], 9, Refusal::Tables),
+        ([2, 2, 2], 0, Refusal::Limit),
+        ([2, 2, 2], 9, Refusal::Tops),
     ];
     for (lent, limit, expected) in openings {
-        let Err(answer) = Trial::open(false, lent, limit) else {
+        let Err(refusal) = Trial::open(&rt, false, lent, limit) else {
             return Err(Fail::new("opened"));
         };
-        assert_eq!(rt; answer, expected);
+        assert_eq!(rt; refusal, expected);
     }
-    let mut t = Trial::open(false, [3; 3], 9)?;
+    let mut t = Trial::open(&rt, false, [3; 3], 9)?;
     for lent in [[4, 3, 3], [3, 2, 3], [3, 3, 4]] {
-        refused_run(&rt, &mut t, lent, 0, 15);
+        refused_run(&rt, &mut t, lent, 0, Refusal::Places);
     }
-    refused_widen(&rt, &mut t, [2, 3], [9; 3], 15);
-    refused_widen(&rt, &mut t, [3, 4], [9; 3], 15);
-    refused_widen(&rt, &mut t, [3; 2], [1; 3], 17);
+    refused_widen(&rt, &mut t, [2, 3], [9; 3], Refusal::Places);
+    refused_widen(&rt, &mut t, [3, 4], [9; 3], Refusal::Places);
+    refused_widen(&rt, &mut t, [3; 2], [1; 3], Refusal::Room);
     // now full
-    assert_eq!(rt; t.run([3; 3], 9), 0);
-    refused_run(&rt, &mut t, [3, 3, 2], 0, 15);
-    refused_run(&rt, &mut t, [3; 3], 0, 16);
-    refused_widen(&rt, &mut t, [4, 3], [1; 3], 15);
+    t.run([3; 3], 9)?;
+    refused_run(&rt, &mut t, [3, 3, 2], 0, Refusal::Places);
+    refused_run(&rt, &mut t, [3; 3], 0, Refusal::Stopped);
+    refused_widen(&rt, &mut t, [4, 3], [1; 3], Refusal::Places);
     for lent in [[3; 3], [5, 4, 5], [5, 5, 6], [4097; 3]] {
-        refused_widen(&rt, &mut t, [3; 2], lent, 18);
+        refused_widen(&rt, &mut t, [3; 2], lent, Refusal::Wider);
     }
     Ok(())
 }
 
-// A state added to a table of two places that holds 1 and 2: the table, how many it holds, 9 for no place, and whether
-// it changed.
-fn added(c: u8) -> [u8; 4] {
+#[test]
+fn numbers_refusals(rt: HostRuntime) {
+    let numbers = [
+        (Refusal::Tables, 12),
+        (Refusal::Limit, 13),
+        (Refusal::Tops, 14),
+        (Refusal::Places, 15),
+        (Refusal::Stopped, 16),
+        (Refusal::Room, 17),
+        (Refusal::Wider, 18),
+    ];
+    for (refusal, number) in numbers {
+        assert_eq!(rt; refusal.number(), number);
+    }
+}
+
+// A state added to a table of two places that holds 1 and 2: the table, and its fill.
+fn added(c: u8) -> ([u8; 2], Option<Fill>) {
     let mut table = [1, 2];
     let fill = Fill {
         held: 2,
         changed: false,
     };
-    match add(&Chain { stuck: false }, &mut table, fill, c) {
-        Some(Fill { held, changed }) => [table[0], table[1], held.min(8) as u8, changed as u8],
-        None => [table[0], table[1], 9, 0],
-    }
+    let fill = add(&Chain { stuck: false }, &mut table, fill, c);
+    (table, fill)
 }
 
 #[test]
 fn adds(rt: HostRuntime) {
-    assert_eq!(rt; added(2), [1, 2, 2, 0]);
-    assert_eq!(rt; added(3), [1, 2, 9, 0]);
-    let [first, _, held, changed] = added(4);
-    assert_eq!(rt; [first, held, changed], [4, 1, 1]);
+    let same = Fill {
+        held: 2,
+        changed: false,
+    };
+    assert_eq!(rt; added(2), ([1, 2], Some(same)));
+    assert_eq!(rt; added(3), ([1, 2], None));
+    let ([first, _], fill) = added(4);
+    assert_eq!(rt; first, 4);
+    let one = Fill {
+        held: 1,
+        changed: true,
+    };
+    assert_eq!(rt; fill, Some(one));
 }

@@ -1,33 +1,23 @@
 -- Reading a formula's tokens leaves its text over the parts that waited.
-use Rattle.std.proofs.Common.{◌≡◌, ℕ, ◌+◌, ◌<◌, ◌≤◌, List, [], ◌∷◌, ◌++◌, map, reverse, length, get_or, drop, string_bytes, sym, refl, ap, ◌∙◌, append_assoc, append-nil, arith}
-use Rattle.std.proofs.lemmas.List.{map_push, reverse-append, length-reverse, length-map, at_drop_more, at_drop_all}
+use Rattle.std.proofs.Common.{◌≡◌, ℕ, ◌≤◌, List, [], ◌∷◌, ◌++◌, map, reverse, length, drop, sym, refl, ap, ◌∙◌, append_assoc, append-nil, arith}
+use Rattle.std.proofs.lemmas.List.{map_push, reverse-append, length-reverse, length-map, at_drop_all}
 use Rattle.formula.specs.declared.token.Token.{Token}
-use Rattle.formula.specs.declared.token.Token.TheVariants.{Location, And, Or}
+use Rattle.formula.specs.declared.token.Token.TheVariants.{And, Or}
 use Rattle.formula.specs.Formulas.{Formula, at, always, never, both, either, postfix}
 use Rattle.formula.specs.Machine.{Spells}
 use Rattle.words.specs.declared.infix.Part.{Part}
 use Rattle.words.specs.Infix.{joined, text, SpellNone}
-use Rattle.words.specs.Parts.{Shown, shown, waiting, join, newest_joined, read_part, read_parts}
+use Rattle.words.specs.Parts.{Shown, shown, waiting, read_parts}
 
 pub waiting_push : (ps : List Part) (p : Part) → waiting (ps ++ p ∷ []) ≡ shown p ∷ waiting ps
 waiting_push ps p = ap reverse (map_push shown ps p) ∙ reverse-append (map shown ps) (shown p ∷ [])
-
--- p, the two newest parts joined, stands over those that are left
-pub two_newest : (c : List ℕ) (all fewer least : List Part) (x y p : Part) → all ≡ fewer ++ y ∷ [] → fewer ≡ least ++ x ∷ [] → shown p ≡ join c (shown x) (shown y) → shown p ∷ waiting least ≡ newest_joined c (waiting all)
-two_newest c all fewer least x y p e h is =
-    let two = ap waiting e ∙ waiting_push fewer y ∙ ap (λ ps. shown y ∷ ps) (ap waiting h ∙ waiting_push least x) in
-    ap (λ q. q ∷ waiting least) is ∙ sym (ap (newest_joined c) two)
 
 -- what is left of ts, read over the parts ps, gives what all of them give
 abbrev pub Sofar : List Token → ℕ → List Shown → Type 0
 Sofar ts i ps = read_parts (drop i ts) ps ≡ read_parts ts []
 
-module _ (ts : List Token) (i : ℕ) (ps : List Shown) (old : Sofar ts i ps) where
-  pub one_more : (qs : List Shown) → i < length ts → qs ≡ read_part (get_or ts i (Location 0)) ps → Sofar ts (i + 1) qs
-  one_more qs h e = ap (read_parts (drop (i + 1) ts)) e ∙ sym (at_drop_more (λ us. read_parts us ps) ts i (Location 0) h) ∙ old
-
-  pub no_more : length ts ≤ i → ps ≡ read_parts ts []
-  no_more h = sym (at_drop_all (λ us. read_parts us ps) ts i h) ∙ old
+pub no_more : (ts : List Token) (i : ℕ) (ps : List Shown) → Sofar ts i ps → length ts ≤ i → ps ≡ read_parts ts []
+no_more ts i ps old h = sym (at_drop_all (λ us. read_parts us ps) ts i h) ∙ old
 
 read_postfix : (f : Formula) (ts : List Token) (ps : List Shown) → read_parts (postfix f ++ ts) ps ≡ read_parts ts ((text f, joined f) ∷ ps)
 read_postfix (at l) ts ps = refl
@@ -47,7 +37,7 @@ newest [] = []
 newest (x ∷ xs) = x.0
 
 module _ (ts : List Token) (ps : List Part) (all : waiting ps ≡ read_parts ts []) where
-  pub newest_text : (least : List Part) (p : Part) → ps ≡ least ++ p ∷ [] → (f : Formula) → Spells f ts → string_bytes p.text ≡ text f
+  pub newest_text : (least : List Part) (p : Part) → ps ≡ least ++ p ∷ [] → (f : Formula) → Spells f ts → (shown p).0 ≡ text f
   newest_text least p e f sp = ap newest (sym (ap waiting e ∙ waiting_push least p) ∙ all ∙ read_spelled f ts sp)
 
   pub none_waits : length ps ≡ 0 → SpellNone ts

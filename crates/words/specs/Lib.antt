@@ -1,4 +1,3 @@
-pub mod Faults
 pub mod Infix
 pub mod Members
 pub mod Parts

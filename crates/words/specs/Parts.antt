@@ -3,13 +3,15 @@ use Rattle.std.specs.Prelude.{ℕ, Bool, true, false, List, [], ◌∷◌, ◌++
 use Rattle.formula.specs.declared.token.Token.{Token}
 use Rattle.formula.specs.declared.token.Token.TheVariants.{Location, True, False, And, Or}
 use Rattle.words.specs.declared.infix.Part.{Part}
+use Rattle.words.specs.declared.infix.Part.TheVariants.{Single, Joined}
 use Rattle.words.specs.Infix.{inside}
 
 abbrev pub Shown : Type 0
 Shown = List ℕ × Bool
 
 abbrev pub shown : Part → Shown
-shown p = (string_bytes p.text, p.joined)
+shown (Single s) = (string_bytes s, false)
+shown (Joined s) = (string_bytes s, true)
 
 abbrev pub waiting : List Part → List Shown
 waiting ps = reverse (map shown ps)

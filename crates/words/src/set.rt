@@ -1,39 +1,30 @@
 // A set of locations, in words.
-ghost use Rattle.std.specs.Prelude.{◌≡◌, ◌++◌, IfOk, string_bytes, string_len, decimal, OnOk, ◌==◌};
-ghost use Rattle.words.specs.Members.{set_words, gap};
+ghost use Rattle.std.specs.Prelude.{◌≡◌, IfOk, map, string_bytes, decimal};
+ghost use Rattle.formula.specs.Unions.{members as members_of};
+ghost use Rattle.words.specs.Members.{set_words};
 
 use formula::set::contains;
 use std::alloc::{AllocError, Global};
+
+// A word for each member, rising.
+fn words(heap: Global, locations: u8, set: u32) -> Result<Vec<String>, AllocError>
+    ensures { IfOk result (λ ws. map string_bytes ws.items ≡ map decimal (members_of locations set)) }
+{
+    let mut words = Vec::new(heap);
+    for location in (0..locations).filter(|l| contains(set, *l)) {
+        words.push(location.to_string(heap)?)?;
+    }
+    Ok(words)
+}
 
 // The members of a set among the first `locations` locations, rising, or `none`.
 pub fn members(heap: Global, locations: u8, set: u32) -> Result<String, AllocError>
     ensures { IfOk result (λ s. string_bytes s ≡ set_words locations set) }
 {
-    let mut text = String::new(heap);
-    for l in 0..locations {
-        if contains(set, l) {
-            add(&mut text, l, heap)?;
-        }
+    let words = words(heap, locations, set)?;
+    if words.is_empty() {
+        String::from_str(heap, "none")
+    } else {
+        words.join(heap, " ")
     }
-    if text.is_empty() {
-        text.push_str("none")?;
-    }
-    Ok(text)
-}
-
-// What stands before the next location: nothing before the first.
-fn gap(text: &String) -> &'static str
-    ensures { result.now ≡ gap (string_len text.now == 0) }
-{
-    if text.is_empty() { "" } else { " " }
-}
-
-// One location more.
-fn add(text: &mut String, location: u8, heap: Global) -> Result<(), AllocError>
-    ensures { OnOk result (string_bytes text.new ≡ string_bytes text.old ++ (gap (string_len text.old == 0) ++ decimal location)) }
-{
-    let gap = gap(text);
-    let more = format!(in heap; "{gap}{location}")?;
-    text.push_str(more.as_str())?;
-    Ok(())
 }

@@ -1,5 +1,5 @@
 -- What stays is what passes among the first held states; where as many stay as there are places, nothing was moved.
-use Rattle.std.proofs.Common.{not, take, filter, sym, ap, ◌∙◌, le_antisymm, arith}
+use Rattle.std.proofs.Common.{not, sym, arith}
 use Rattle.std.proofs.lemmas.List.Filters.{FiltersInPlace-more_set, FiltersInPlace-more_no}
 use Rattle.std.proofs.lemmas.Bool.{not_from_true, not_from_false}
 use Rattle.antichain.proofs.Tables.{keeping_whole}
@@ -13,9 +13,5 @@ loop-i-preserved g c =
       | else-not-below w ↦ rw (w.table-is, w.front-is) (FiltersInPlace-more_no c.loop-i.invariant (omega (arith, c.loop-i.invariant.long)) (not_from_true ((g.G.Graph.means c.args.graph.now).below c.index-table-i.result c.args.c) (sym w.if-not-below.ensures)) c.index-table-i.is)
     ]
 
-pub returns : goal.returns
-returns g c = record {
-  few = omega arith;
-  stay = c.loop-i.invariant.front ∙ ap (λ n. filter (λ y. not ((g.G.Graph.means c.args.graph.now).below y c.args.c)) (take n c.args.table.now)) (le_antisymm c.loop-i.auto.i-end c.loop-i-test.false);
-  whole = keeping_whole (g.G.Graph.means c.args.graph.now).below (λ y. not ((g.G.Graph.means c.args.graph.now).below y c.args.c)) c.args.table.now c.loop-i.table c.loop-i.front c.loop-i.i c.args.held c.loop-i.invariant (omega arith) c.loop-i-test.false c.loop-i.auto.i-end c.requires;
-}
+pub returns-clause-whole : goal.returns-clause-whole
+returns-clause-whole g c = λ full. keeping_whole (λ y. not ((g.G.Graph.means c.args.graph.now).below y c.args.c)) c.args.table.now c.loop-i.table c.loop-i.front c.loop-i.i c.loop-i.invariant (omega arith) full

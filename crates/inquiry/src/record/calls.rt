@@ -1,4 +1,4 @@
-// The calls on an inquiry: open, run, widen and report. A call that is turned down changes nothing.
+// The calls that move an inquiry: open, run and widen. A call that is turned down changes nothing.
 ghost use Rattle.std.specs.Prelude.{◌≡◌, ◌≤◌, List, length, IfOk, MatchResult};
 ghost use Rattle.graph.specs.Meaning.{Meaning};
 ghost use Rattle.inquiry.specs.declared.standing.Standing.TheVariants.{Running};
@@ -7,13 +7,13 @@ ghost use Rattle.inquiry.specs.Course.{Course, Promise, Onward};
 ghost use Rattle.inquiry.specs.Position.{opened, swept, ran, widened};
 ghost use Rattle.inquiry.specs.Record.{reported, position};
 
-use super::super::bring::bring;
 use super::super::brought::Brought;
 use super::super::refusal::Refusal;
 use super::super::report::Report;
 use super::super::standing::Standing;
 use super::super::sweep::{copy, tops};
 use super::Inquiry;
+use antichain::fill::Fill;
 use graph::Graph;
 
 impl Inquiry {
@@ -38,23 +38,26 @@ impl Inquiry {
         if graph.tops() as usize > places {
             return Err(Refusal::Tops);
         }
-        // there is a place for each top
-        let held = match tops(graph, outer) {
-            Some(fill) => fill.held,
-            None => 0,
+        let Some(Fill { held, .. }) = tops(graph, outer) else {
+            // there is a place for each top
+            unreachable()
         };
         Ok(Inquiry {
-            standing: Standing::Running,
-            round: 0,
-            sweep: 0,
-            count: 0,
-            limit,
-            places,
-            outer: held,
-            inner: 0,
+            report: Report {
+                standing: Standing::Running,
+                round: 0,
+                sweep: 0,
+                count: 0,
+                limit,
+                places,
+                outer: held,
+                inner: 0,
+            },
         })
     }
 
+    // The three tables stay three parameters: they are lent to each call, and a struct of their loans would have to
+    // promise after every step that it still holds them.
     fn step<G: Graph>(
         &mut self,
         graph: &G,
@@ -62,31 +65,15 @@ impl Inquiry {
         inner: &mut [G::State],
         work: &mut [G::State],
     )
-        requires { (self.old.standing ≡ Running) × ((length outer.old ≡ self.old.places) × ((length inner.old ≡ self.old.places) × (length work.old ≡ self.old.places))) }
+        requires runs { self.old.report.standing ≡ Running }
+        requires outer { length outer.old ≡ self.old.report.places }
+        requires inner { length inner.old ≡ self.old.report.places }
+        requires work { length work.old ≡ self.old.report.places }
         ensures sweeps { position (reported self.new) outer.new inner.new ≡ swept (G.means graph.now) (position (reported self.old) outer.old inner.old) }
-        ensures long { self.new.places ≡ self.old.places }
+        ensures long { self.new.report.places ≡ self.old.report.places }
     {
-        let brought = bring(graph, outer, self.outer, inner, self.inner, work);
+        let brought = self.bring(graph, outer, inner, work);
         self.turn(brought);
-    }
-
-    fn steps<G: Graph>(
-        &mut self,
-        graph: &G,
-        outer: &mut [G::State],
-        inner: &mut [G::State],
-        work: &mut [G::State],
-        budget: u32,
-    )
-        requires { (length outer.old ≡ self.old.places) × ((length inner.old ≡ self.old.places) × (length work.old ≡ self.old.places)) }
-        ensures { position (reported self.new) outer.new inner.new ≡ ran (G.means graph.now) budget (position (reported self.old) outer.old inner.old) }
-    {
-        for done in 0..budget {
-            match self.standing {
-                Standing::Running => self.step(graph, outer, inner, work),
-                _ => return,
-            }
-        }
     }
 
     // Sweeps until so many are counted or the inquiry does not run. Work is free, and so is what lies past the held states.
@@ -101,13 +88,19 @@ impl Inquiry {
         ensures steps { Turned (run_refusal (reported self.old) (length outer.old) (length inner.old) (length work.old)) result ((self.new ≡ self.old) × (outer.new ≡ outer.old) × (inner.new ≡ inner.old) × (work.new ≡ work.old)) (λ _. Ran (G.means graph.now) budget (position (reported self.old) outer.old inner.old) (position (reported self.new) outer.new inner.new)) }
         ensures onward { Onward (G.means graph.now) (position (reported self.old) outer.old inner.old) (position (reported self.new) outer.new inner.new) }
     {
-        if outer.len() != self.places || inner.len() != self.places || work.len() != self.places {
+        let places = self.report.places;
+        if outer.len() != places || inner.len() != places || work.len() != places {
             return Err(Refusal::Places);
         }
-        let Standing::Running = self.standing else {
+        let Standing::Running = self.report.standing else {
             return Err(Refusal::Stopped);
         };
-        self.steps(graph, outer, inner, work, budget);
+        for _done in 0..budget {
+            let Standing::Running = self.report.standing else {
+                break;
+            };
+            self.step(graph, outer, inner, work);
+        }
         Ok(())
     }
 
@@ -123,42 +116,23 @@ impl Inquiry {
         ensures steps { Turned (widen_refusal (reported self.old) (length outer.now) (length inner.now) (length new_outer.old) (length new_inner.old) (length new_work.now)) result ((self.new ≡ self.old) × (new_outer.new ≡ new_outer.old) × (new_inner.new ≡ new_inner.old)) (λ _. position (reported self.new) new_outer.new new_inner.new ≡ widened (length new_outer.old) (position (reported self.old) outer.now inner.now)) }
         ensures onward { MatchResult result (λ _. (g : G) → Onward (G.means g) (position (reported self.old) outer.now inner.now) (position (reported self.new) new_outer.new new_inner.new)) (λ _. (g : G) → Onward (G.means g) (position (reported self.old) outer.now inner.now) (position (reported self.new) outer.now inner.now)) }
     {
-        if outer.len() != self.places || inner.len() != self.places {
+        if outer.len() != self.report.places || inner.len() != self.report.places {
             return Err(Refusal::Places);
         }
-        let Standing::Full = self.standing else {
+        let Standing::Full = self.report.standing else {
             return Err(Refusal::Room);
         };
         let places = new_outer.len();
         if new_inner.len() != places
             || new_work.len() != places
-            || places <= self.places
+            || places <= self.report.places
             || places > 4096
         {
             return Err(Refusal::Wider);
         }
-        let held = self.outer;
-        copy(&outer[0..held], new_outer);
-        let held = self.inner;
-        copy(&inner[0..held], new_inner);
+        copy(&outer[0..self.report.outer], new_outer);
+        copy(&inner[0..self.report.inner], new_inner);
         self.turn(Brought::Room(places));
         Ok(())
-    }
-
-    // What the record says; it keeps the promise wherever a course leads to it.
-    pub fn report<G: Graph>(&self) -> Report
-        ensures is { result ≡ reported self.now }
-        ensures onward { (g : G) (outer inner : List G.State) → Course (G.means g) (position result outer inner) → Promise (G.means g) (position result outer inner) }
-    {
-        Report {
-            standing: self.standing,
-            round: self.round,
-            sweep: self.sweep,
-            count: self.count,
-            limit: self.limit,
-            places: self.places,
-            outer: self.outer,
-            inner: self.inner,
-        }
     }
 }

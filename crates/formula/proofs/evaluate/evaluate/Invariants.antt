@@ -2,8 +2,7 @@
 use Rattle.std.proofs.Common.{◌≡◌, [], drop}
 use Rattle.formula.specs.Machine.{run}
 use Rattle.formula.specs.Sets.{has}
-use Rattle.formula.specs.Stack.{values}
 use Rattle.formula.proofs.evaluate.evaluate.Given as goal
 
 abbrev pub invariant-loop-token : goal.invariant-loop-token
-invariant-loop-token l = run (has l.set) (drop l.token-index l.tokens) (values l.stack.count l.stack.bits) ≡ run (has l.set) l.tokens []
+invariant-loop-token l = run (has l.set) (drop l.token-index l.tokens) l.stack ≡ run (has l.set) l.tokens []

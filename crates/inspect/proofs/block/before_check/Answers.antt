@@ -1,6 +1,6 @@
-use Rattle.std.proofs.Common.{sym}
-use Rattle.std.proofs.lemmas.List.{take_all}
+use Rattle.std.proofs.Common.{refl, ap, ◌∙◌}
+use Rattle.inspect.proofs.Cuts.{front_or_all}
 use Rattle.inspect.proofs.block.before_check.Goals as goal
 
-pub returns-then-block-le-CHECK : goal.returns-then-block-le-CHECK
-returns-then-block-le-CHECK c = sym (take_all 510 c.args.block.now c.if-block-le-CHECK.true)
+pub returns : goal.returns
+returns c = ap (λ b. b.now) c.unwrap_or.ensures ∙ front_or_all c.args.block.now 510 _ _ c.get.ensures.lookup refl

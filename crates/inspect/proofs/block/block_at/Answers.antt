@@ -1,12 +1,9 @@
-use Rattle.std.proofs.Common.{arith}
-use Rattle.inspect.proofs.Cuts.{cut_inside, cut_short, cut_past}
+use Rattle.std.proofs.Common.{◌*◌, take, drop, refl, ap, ◌∙◌}
+use Rattle.inspect.proofs.Cuts.{front_or_all, rest_or_none}
 use Rattle.inspect.proofs.block.block_at.Goals as goal
 
-pub returns-then-start-sheet : goal.returns-then-start-sheet
-returns-then-start-sheet c = cut_inside c.args.sheet.now _ _ c.from-start.ensures
-
-pub returns-then-start-sheet-2 : goal.returns-then-start-sheet-2
-returns-then-start-sheet-2 c = cut_short c.args.sheet.now c.args.k c.from-start.result c.from-start.ensures (omega arith)
-
-pub returns-else-start-sheet-2 : goal.returns-else-start-sheet-2
-returns-else-start-sheet-2 c = cut_past c.args.sheet.now c.args.k c.from-start.result c.from-start.ensures (omega arith)
+pub returns : goal.returns
+returns c =
+    let xs = c.args.sheet.now in
+    let rest = ap (λ b. b.now) c.unwrap_or-rest.ensures ∙ rest_or_none xs _ _ _ c.get.ensures.lookup refl ∙ ap (λ k. drop (k * 512) xs) c.from.ensures in
+    ap (λ b. b.now) c.unwrap_or.ensures ∙ front_or_all _ 512 _ _ c.get-2.ensures.lookup refl ∙ ap (take 512) rest

@@ -11,4 +11,4 @@ use Rattle.layer.proofs.both.loops_are_shared.Goals as goal
 pub returns : goal.returns
 returns g c t e =
     let m = g.G.Graph.means c.args.layer.now.below in
-    as_fitted c.args.layer.now.model m t e (λ x. Loop x ↔ MakeOne (model_means t) m) (λ fits. loops_shared (model_head t) (vec_items t.successors) m (laid_lawful t m (g.met.G.Graph.lawful c.args.layer.now.below) fits))
+    as_fitted c.args.layer.now.model m t e (λ x. Loop x ↔ MakeOne (model_means t) m) (λ fits. loops_shared (model_head t) (vec_items t.cells) m (laid_lawful t m (g.met.G.Graph.lawful c.args.layer.now.below) fits))

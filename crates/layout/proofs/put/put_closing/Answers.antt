@@ -9,14 +9,18 @@ use Rattle.layout.proofs.put.put_closing.Goals as goal
 
 pub returns-then-cursor-lt-BODY : goal.returns-then-cursor-lt-BODY
 returns-then-cursor-lt-BODY c =
-    let at = position c.args.cursor in
-    let left = 507 - c.args.cursor.used in
-    let closes : closing c.args.cursor.used ≡ 0xff ∷ zeros left = cond-true _ _ _ (lt-ltb c.args.cursor.used 508 (omega arith)) in
-    let first = ap (λ p. pasted c.args.out.now p (0xff ∷ [])) c.at-at.ensures in
-    c.put_zeros.ensures ∙ ap₂ (λ ys p. pasted ys p (zeros left)) (c.put.ensures ∙ first) (ap (λ p. p + 1) c.at-at.ensures)
-    ∙ pasted_pasted c.args.out.now (0xff ∷ []) at (omega arith) (zeros left) (at + 1) refl ∙ ap (pasted c.args.out.now at) (sym closes)
+    let d = c.args.cursor in
+    let at = position d in
+    let used = ap (λ e. e.used) c.cursor.view_is in
+    let left = ap (λ e. zeros (507 - e.used)) c.cursor-then-cursor-lt-BODY.view_is in
+    let closes : closing d.used ≡ 0xff ∷ zeros (507 - d.used) = cond-true _ _ _ (lt-ltb d.used 508 (omega (arith, used))) in
+    let first = c.put.ensures ∙ ap (λ p. pasted c.args.out.now p (0xff ∷ [])) c.at-at.ensures in
+    c.put_zeros.ensures ∙ ap (pasted c.put.new.out _) left
+    ∙ ap₂ (λ ys p. pasted ys (p + 1) (zeros (507 - d.used))) first c.at-at.ensures
+    ∙ pasted_pasted c.args.out.now (0xff ∷ []) at (omega (arith, used)) (zeros (507 - d.used)) (at + 1) refl ∙ ap (pasted c.args.out.now at) (sym closes)
 
 pub returns-else-cursor-lt-BODY : goal.returns-else-cursor-lt-BODY
 returns-else-cursor-lt-BODY c =
-    let closes : closing c.args.cursor.used ≡ [] = cond-false _ _ _ (le-ltb c.args.cursor.used 508 (omega arith)) in
+    let used = ap (λ e. e.used) c.cursor.view_is in
+    let closes : closing c.args.cursor.used ≡ [] = cond-false _ _ _ (le-ltb c.args.cursor.used 508 (omega (arith, used))) in
     pasted_none c.args.out.now _ ∙ ap (pasted c.args.out.now _) (sym closes)

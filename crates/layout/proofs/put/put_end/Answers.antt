@@ -1,5 +1,5 @@
 -- A block is ended by what closes it and then its check.
-use Rattle.std.proofs.Common.{◌+◌, ◌*◌, ap, ◌∙◌}
+use Rattle.std.proofs.Common.{◌+◌, ◌*◌, ap, ◌∙◌, ap₂}
 use Rattle.inspect.specs.Format.{block, check_of}
 use Rattle.layout.specs.Cursors.{check_bytes, ended}
 use Rattle.layout.specs.Pasted.{pasted}
@@ -8,5 +8,5 @@ use Rattle.layout.proofs.put.put_end.Goals as goal
 pub returns : goal.returns
 unfolding ended
 returns c =
-    let k = c.args.cursor.block in
-    c.put_check.ensures ∙ ap (λ ys. pasted ys (k * 512 + 510) (check_bytes (check_of (block ys k)))) c.put_closing.ensures
+    let laid = c.put_closing.ensures in
+    c.put_check.ensures ∙ ap₂ (λ ys k. pasted ys (k * 512 + 510) (check_bytes (check_of (block ys k)))) laid (ap (λ d. d.block) c.cursor.view_is)

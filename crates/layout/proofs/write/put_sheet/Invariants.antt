@@ -1,10 +1,6 @@
--- What the cells so far hold stands in the sheet, and behind the sheet nothing changed.
-use Rattle.std.proofs.Common.{◌≡◌, length, drop}
+-- What the cells so far hold stands in the sheet.
 use Rattle.layout.specs.Standing.{entries_at, Stands}
-use Rattle.layout.specs.Written.{written}
 use Rattle.layout.proofs.write.put_sheet.Given as goal
 
 abbrev pub invariant-loop-cell : goal.invariant-loop-cell
-invariant-loop-cell g l =
-    Stands (g.S.Source.content l.source) l.out l.cursor (entries_at (g.S.Source.content l.source) l.cell)
-    × (drop (length (written (g.S.Source.content l.source))) l.out ≡ drop (length (written (g.S.Source.content l.source))) l.initial.out)
+invariant-loop-cell g l = Stands (g.S.Source.content l.source) l.out l.cursor (entries_at (g.S.Source.content l.source) l.cell)

@@ -1,9 +1,9 @@
 -- The blocks that are counted are those of the sheet, so it is refused exactly where it does not fit.
 use Rattle.std.proofs.Common.{◌*◌, ◌++◌, drop, sym, refl, ap, ◌∙◌, arith}
+use Rattle.std.proofs.lemmas.List.{length-take-le}
 use Rattle.inspect.specs.Denotes.{Content}
 use Rattle.layout.specs.Valid.{Valid}
 use Rattle.layout.specs.Writes.{ReadsBack}
-use Rattle.layout.specs.Written.{written}
 use Rattle.layout.proofs.Sheets.{written_length, written_few, written_denotes}
 use Rattle.layout.proofs.write.write.Goals as goal
 
@@ -29,7 +29,9 @@ returns-then-out-length g c =
 
 pub put_sheet-requires : goal.put_sheet-requires
 put_sheet-requires g c =
-    let x = c.args.source.now in omega (arith, c.count_blocks-length.ensures, written_length (g.S.Source.content x) (g.met.S.Source.valid x), c.if-out-length.false)
+    let x = c.args.source.now in
+    length-take-le (c.count_blocks-length.result * 512) c.args.out.now c.if-out-length.false
+    ∙ ap (λ n. n * 512) c.count_blocks-length.ensures ∙ sym (written_length (g.S.Source.content x) (g.met.S.Source.valid x))
 
 pub returns : goal.returns
 returns g c =
@@ -37,7 +39,4 @@ returns g c =
     let s = g.S.Source.content x in
     let valid = g.met.S.Source.valid x in
     let long = ap (λ n. n * 512) c.count_blocks-length.ensures ∙ sym (written_length s valid) in
-    record {
-      writes = (long, c.if-out-length.false, c.put_sheet.ensures ∙ ap (λ n. written s ++ drop n c.args.out.now) (sym long));
-      reads_back = reads_back_lem s valid;
-    }
+    record { writes = (long, c.if-out-length.false, ap (λ ys. ys ++ drop (c.count_blocks-length.result * 512) c.args.out.now) c.put_sheet.ensures); reads_back = reads_back_lem s valid }

@@ -1,0 +1,7 @@
+use Rattle.std.proofs.Common.{[], ◌∙◌}
+use Rattle.inspect.proofs.Cuts.{blocks_pass}
+use Rattle.inspect.proofs.blocks.Blocks.check.Goals as goal
+
+pub loop-i-preserved : goal.loop-i-preserved
+loop-i-preserved c =
+    c.loop-i.invariant ∙ blocks_pass c.args.self.now.entries.now c.loop-i.i [] c.loop-i-test.true c.in_ok-check_block-2.ensures.0

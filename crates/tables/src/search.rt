@@ -1,0 +1,107 @@
+// An inquiry in tables of its places: no call on it is turned down for their lengths.
+ghost use Rattle.std.specs.Prelude.{◌≡◌, vec_len};
+ghost use Rattle.inquiry.specs.Record.{reported};
+
+use crate::Tables;
+use graph::Graph;
+use inquiry::record::Inquiry;
+use inquiry::refusal::Refusal;
+use inquiry::report::Report;
+use std::alloc::{AllocError, Global};
+
+// How many places a search has at first.
+pub const PLACES: usize = 512;
+
+// How many it may be moved to.
+pub const MOST: usize = 4096;
+
+// How many sweeps it may count.
+pub const LIMIT: u32 = 100_000;
+
+#[derive(Drop)]
+pub struct Search<S> {
+    pub inquiry: Inquiry,
+    pub tables: Tables<S>,
+    pub ghost long: { vec_len tables.outer ≡ (reported inquiry).places },
+}
+
+impl<S: Copy> Search<S> {
+    ghost use Rattle.std.specs.Prelude.{◌<◌, ◌≤◌, IfOk, OnErr};
+    ghost use Rattle.inquiry.specs.declared.standing.Standing.TheVariants.{Running, Full};
+    ghost use Rattle.inquiry.specs.Calls.{open_refusal, Turned, Ran};
+    ghost use Rattle.inquiry.specs.Course.{Course, Promise, Onward};
+    ghost use Rattle.inquiry.specs.Position.{opened, widened};
+    ghost use Rattle.tables.specs.Search.{place, Placed};
+
+    // Begins an inquiry in the tables.
+    pub fn open<G: Graph<State = S>>(
+        graph: &G,
+        tables: Tables<S>,
+        limit: u32,
+    ) -> Result<Search<S>, Refusal>
+        ensures steps { Turned (open_refusal (vec_len tables.outer) (vec_len tables.outer) (vec_len tables.outer) limit (G.means graph.now).tops) result (Unit {0}) (λ s. place s ≡ opened (G.means graph.now) limit (vec_len tables.outer)) }
+        ensures onward { IfOk result (λ s. Placed (G.means graph.now) s × Promise (G.means graph.now) (place s)) }
+    {
+        let Tables {
+            mut outer,
+            inner,
+            work,
+        } = tables;
+        let inquiry = Inquiry::open(graph, &mut outer, &inner, &work, limit)?;
+        let tables = Tables { outer, inner, work };
+        Ok(Search { inquiry, tables })
+    }
+
+    // Sweeps until so many are counted or the inquiry does not run.
+    pub fn run<G: Graph<State = S>>(&mut self, graph: &G, budget: u32)
+        requires running { (place self.old).standing ≡ Running }
+        ensures steps { Ran (G.means graph.now) budget (place self.old) (place self.new) }
+        ensures onward { Onward (G.means graph.now) (place self.old) (place self.new) }
+    {
+        let tables = &mut self.tables;
+        self.inquiry
+            .run(
+                graph,
+                &mut tables.outer,
+                &mut tables.inner,
+                &mut tables.work,
+                budget,
+            )
+            .unwrap()
+    }
+
+    // Moves a full inquiry to longer tables, where it runs on.
+    pub fn widen<G: Graph<State = S>>(
+        &mut self,
+        heap: Global,
+        graph: &G,
+        places: usize,
+    ) -> Result<(), AllocError>
+        requires full { (place self.old).standing ≡ Full }
+        requires longer { (place self.old).places < places }
+        requires few { places ≤ 4096 }
+        ensures steps { IfOk result (λ _. place self.new ≡ widened places (place self.old)) }
+        ensures onward { IfOk result (λ _. Onward (G.means graph.now) (place self.old) (place self.new)) }
+        ensures same { OnErr result (self.new ≡ self.old) }
+    {
+        let Tables {
+            mut outer,
+            mut inner,
+            work,
+        } = Tables::new(heap, graph.start(), places)?;
+        let tables = &self.tables;
+        self.inquiry
+            .widen::<G>(&tables.outer, &tables.inner, &mut outer, &mut inner, &work)
+            .unwrap();
+        self.tables = Tables { outer, inner, work };
+        Ok(())
+    }
+
+    // What the record says.
+    pub fn report<G: Graph<State = S>>(&self) -> Report
+        ensures is { result ≡ reported self.now.inquiry }
+        ensures onward { (g : G) → Course (G.means g) (place self.now) → Promise (G.means g) (place self.now) }
+    {
+        self.inquiry.report::<G>()
+    }
+}
