@@ -35,7 +35,7 @@ module _ (bs : List (List ℕ)) (i : ℕ) (d : List ℕ) (inside : i < length bs
       ∙ first_append (block_checks (i + 1) (get_or bs i d)) (each_block_checks (suc (i + 1)) (drop (i + 1) bs)) h
       ∙ ap (λ k. first (each_block_checks k (drop (i + 1) bs))) (sym (add-one (i + 1)))
 
-  each_entries_on : each_entries (i + 1) (drop i bs) ≡ entries (i + 1) 2 (body (get_or bs i d)) ++ each_entries (i + 1 + 1) (drop (i + 1) bs)
+  pub each_entries_on : each_entries (i + 1) (drop i bs) ≡ entries (i + 1) 2 (body (get_or bs i d)) ++ each_entries (i + 1 + 1) (drop (i + 1) bs)
   each_entries_on =
       at_drop_more (each_entries (i + 1)) bs i d inside
       ∙ ap (λ k. entries (i + 1) 2 (body (get_or bs i d)) ++ each_entries k (drop (i + 1) bs)) (sym (add-one (i + 1)))
@@ -46,17 +46,6 @@ module _ (bs : List (List ℕ)) (i : ℕ) (d : List ℕ) (inside : i < length bs
 
   pub each_entries_fit : Fitting (each_entries (i + 1) (drop i bs)) → Fitting (entries (i + 1) 2 (body (get_or bs i d))) × Fitting (each_entries (i + 1 + 1) (drop (i + 1) bs))
   each_entries_fit h = all_parts (λ e. e.fits ≡ true) _ _ (rw each_entries_on at h)
-
--- block k of n, which was cut from a sheet, in its entries
-module _ (xs b : List ℕ) (k n : ℕ) (inside : k < n) (is : b ≡ block xs k) where
-  left : n - k ≡ suc (n - (k + 1))
-  left = omega arith
-
-  pub all_entries_on : all_entries xs k (n - k) ≡ entries k 2 (body b) ++ all_entries xs (k + 1) (n - (k + 1))
-  all_entries_on = rw (left, add-one k) (ap (λ c. entries k 2 (body c) ++ all_entries xs (suc k) (n - suc k)) (sym is))
-
-  pub entries_fit : Fitting (all_entries xs k (n - k)) → Fitting (entries k 2 (body b)) × Fitting (all_entries xs (k + 1) (n - (k + 1)))
-  entries_fit h = all_parts (λ e. e.fits ≡ true) _ _ (rw all_entries_on at h)
 
 -- the blocks of a sheet from block k on
 module _ (xs : List ℕ) where

@@ -1,23 +1,17 @@
-use Rattle.std.proofs.Common.{◌≡◌, ℕ, ◌+◌, ◌-◌, ◌*◌, ◌<◌, List, [], ◌∷◌, ◌++◌, map, length, get_or, drop, replicate, add-one, sym, refl, ap, ◌∙◌, subst, arith}
-use Rattle.std.proofs.lemmas.List.{at_drop_all, at_drop_more}
+use Rattle.std.proofs.Common.{◌≡◌, ◌+◌, ◌-◌, ◌*◌, ◌<◌, List, [], ◌∷◌, map, length, replicate, sym, refl, ap, ◌∙◌, subst, arith}
+use Rattle.std.proofs.lemmas.List.{at_drop_all}
 use Rattle.std.specs.Simd.{first_chunks}
 use Rattle.inspect.specs.Blocks.{each_entries}
 use Rattle.inspect.specs.Contents.{entry_of}
 use Rattle.inspect.specs.Denotes.{laid}
-use Rattle.inspect.specs.Entries.{Placed, entries, all_entries}
-use Rattle.inspect.specs.Format.{blocks, body}
-use Rattle.inspect.proofs.Cuts.{cut_entries, entries_fit}
+use Rattle.inspect.specs.Entries.{Placed, all_entries}
+use Rattle.inspect.specs.Format.{blocks}
+use Rattle.inspect.proofs.Cuts.{cut_entries, each_entries_fit, each_entries_on}
 use Rattle.inspect.proofs.Passing.{Fitting}
 use Rattle.sheet.specs.Tables.{formulas}
 use Rattle.sheet.proofs.Denoteds.{denoted_few, denoted_fits, denoted_head}
 use Rattle.sheet.proofs.filling.read_table.Goals as goal
 use Rattle.sheet.proofs.filling.read_table.Goals.{In-Some}
-
--- the entries of block i + 1, and those of the blocks behind it
-entries_on : (bs : List (List ℕ)) (i : ℕ) → i < length bs → each_entries (i + 1) (drop i bs) ≡ entries (i + 1) 2 (body (get_or bs i [])) ++ each_entries (i + 1 + 1) (drop (i + 1) bs)
-entries_on bs i inside =
-    at_drop_more (each_entries (i + 1)) bs i [] inside
-    ∙ ap (λ k. entries (i + 1) 2 (body (get_or bs i [])) ++ each_entries k (drop (i + 1) bs)) (sym (add-one (i + 1)))
 
 -- the blocks that the sheet is
 whole : (c : In-Some) → c.in-Some.field-0-0.now ∷ c.in-Some.entries.now ≡ first_chunks 512 (blocks c.args.sheet.bytes.now) c.args.sheet.bytes.now
@@ -45,13 +39,13 @@ overflow_add-i c = omega (arith, few (goal.at.overflow_add-i c).In-Some)
 
 pub fill_block-requires : goal.fill_block-requires
 fill_block-requires c =
-    (entries_fit c.in-Some.entries.now c.loop-i.i [] c.loop-i-test.true c.loop-i.invariant.0).0
+    (each_entries_fit c.in-Some.entries.now c.loop-i.i [] c.loop-i-test.true c.loop-i.invariant.0).0
 
 pub loop-i-preserved : goal.loop-i-preserved
 loop-i-preserved c =
     let bs = c.in-Some.entries.now in (
-      (entries_fit bs c.loop-i.i [] c.loop-i-test.true c.loop-i.invariant.0).1,
-      c.loop-i.invariant.1 ∙ ap (λ es. laid c.args.sheet.head.letters (formulas c.loop-i.table) (map entry_of es)) (entries_on bs c.loop-i.i c.loop-i-test.true) ∙ c.in_ok-fill_block.ensures _,
+      (each_entries_fit bs c.loop-i.i [] c.loop-i-test.true c.loop-i.invariant.0).1,
+      c.loop-i.invariant.1 ∙ ap (λ es. laid c.args.sheet.head.letters (formulas c.loop-i.table) (map entry_of es)) (each_entries_on bs c.loop-i.i [] c.loop-i-test.true) ∙ c.in_ok-fill_block.ensures _,
     )
 
 pub returns : goal.returns
