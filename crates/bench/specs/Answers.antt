@@ -7,9 +7,8 @@ use Rattle.inspect.specs.declared.head.Asked.TheVariants as asked
 use Rattle.inspect.specs.Denotes.{Content, Denotes}
 use Rattle.model_graph.specs.ModelGraph.{content_means}
 use Rattle.sheet.specs.declared.error.LoadError.{LoadError}
-use Rattle.sheet.specs.declared.model.Model.{Model}
 use Rattle.sheet.specs.Loads.{NotLoaded}
-use Rattle.sheet.specs.Models.{IsModel}
+use Rattle.sheet.specs.Models.{Model, IsModel}
 use Rattle.bench.specs.declared.Answer.{Answer}
 use Rattle.bench.specs.Concludes.{Concludes}
 
