@@ -24,7 +24,9 @@ fn ends<G: Graph>(
     let Ok(mut search) = Search::open(graph, tables, 100) else {
         return Err(Fail::new("open is refused"));
     };
-    search.run(graph, 100);
+    let Ok(()) = search.run(graph, 100) else {
+        return Err(Fail::new("run is refused"));
+    };
     let report = search.report::<G>();
     assert_eq!(rt; report.standing, standing);
     assert!(rt; report.round == 1 && report.count == count);

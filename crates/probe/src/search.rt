@@ -7,7 +7,7 @@ use inquiry::standing::Standing;
 use sheet::error::LoadError;
 use std::alloc::Global;
 use tables::Tables;
-use tables::search::{LIMIT, MOST, PLACES, Search};
+use tables::search::{LIMIT, PLACES, Search};
 
 fn print_report(rt: &HostRuntime, name: &'static str, report: Report) -> anyhow::Result<()> {
     println!(rt;
@@ -28,7 +28,9 @@ fn begun<G: Graph>(
     let Ok(mut search) = Search::open(graph, tables, limit) else {
         return Err(anyhow!("not opened"));
     };
-    search.run(graph, limit);
+    let Ok(()) = search.run(graph, limit) else {
+        return Err(anyhow!("not run"));
+    };
     Ok(search)
 }
 
@@ -45,11 +47,13 @@ pub fn search<G: Graph>(
     let Standing::Full = report.standing else {
         return Ok(());
     };
-    if report.places >= MOST {
+    let more = report.places.saturating_add(1);
+    let Ok(()) = search.widen(rt.alloc(), graph, more) else {
         return Err(anyhow!("not widened"));
-    }
-    search.widen(rt.alloc(), graph, report.places + 1)?;
-    search.run(graph, limit);
+    };
+    let Ok(()) = search.run(graph, limit) else {
+        return Err(anyhow!("not run again"));
+    };
     print_report(rt, name, search.report::<G>())
 }
 

@@ -8,8 +8,8 @@ use Rattle.inquiry.specs.Course.{Course, Promise}
 use Rattle.inquiry.specs.Record.{position}
 use Rattle.inquiry.specs.Refusal.{number}
 use Rattle.inquiry.specs.Standing.{running}
-use Rattle.pursuit.specs.declared.halt.Halt.{Halt}
-use Rattle.pursuit.specs.declared.halt.Halt.TheVariants.{Refused, Memory}
+use Rattle.tables.specs.declared.halt.Halt.{Halt}
+use Rattle.tables.specs.declared.halt.Halt.TheVariants.{Refused, Memory}
 
 -- from what the record said to the report, in the same tables
 pub record Exhausted {S : Type 0} (m : Meaning S) (from r : Report) (outer inner : List S) : Type 0 where

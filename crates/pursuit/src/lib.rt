@@ -7,14 +7,12 @@ ghost use Rattle.tables.specs.Search.{Placed};
 ghost use Rattle.pursuit.specs.Pursued.{Exhausted, Outcome};
 
 use graph::Graph;
-use halt::Halt;
 use inquiry::report::Report;
 use inquiry::standing::Standing;
 use std::alloc::Global;
 use tables::Tables;
+use tables::halt::Halt;
 use tables::search::{LIMIT, MOST, PLACES, Search};
-
-pub mod halt;
 
 const BUDGET: u32 = 1000;
 
@@ -36,7 +34,7 @@ fn exhaust<G: Graph, W: Watch>(graph: &G, search: &mut Search<G::State>, watch: 
         let Standing::Running = report.standing else {
             return report;
         };
-        search.run(graph, BUDGET);
+        search.run(graph, BUDGET).unwrap();
         watch.stopped(search.report::<G>());
     }
 }

@@ -1,5 +1,5 @@
 -- A run keeps the places and the limit, and a search that is on a course is placed. Assumes nothing.
-use Rattle.std.proofs.Common.{◌≡◌, ℕ, Some, None, Ok, Err, Option, Result, sym, refl, ap, ◌∙◌, subst, ⊎_elim}
+use Rattle.std.proofs.Common.{◌≡◌, ℕ, Some, None, Ok, Err, Option, Result, IfOk, sym, refl, ap, ◌∙◌, subst, ⊎_elim}
 use Rattle.graph.specs.Meaning.{Meaning}
 use Rattle.inquiry.specs.declared.refusal.Refusal.{Refusal}
 use Rattle.inquiry.specs.Calls.{Turned, Ran}
@@ -15,6 +15,21 @@ either_way (Some n) (Ok a) same done f g t = absurd t
 either_way (Some n) (Err e) same done f g t = f t.1
 either_way None (Ok a) same done f g t = g a t
 either_way None (Err e) same done f g t = absurd t
+
+-- what a call did that nothing turned down, and what follows of it
+pub done : {A : Type 0} (o : Option ℕ) (x : Result A Refusal) (same P : Type 0) → o ≡ None → Turned o x same (λ _. P) → P
+done {A = A} o x same P is t = go x (subst (λ v. Turned v x same (λ _. P)) is t)
+  where
+    go : (x : Result A Refusal) → Turned None x same (λ _. P) → P
+    go (Ok a) t = t
+    go (Err e) t = absurd t
+
+pub follows : {A : Type 0} (o : Option ℕ) (x : Result A Refusal) (same P Q : Type 0) → o ≡ None → Turned o x same (λ _. P) → IfOk x (λ _. Q) → Q
+follows {A = A} o x same P Q is t q = go x (subst (λ v. Turned v x same (λ _. P)) is t) q
+  where
+    go : (x : Result A Refusal) → Turned None x same (λ _. P) → IfOk x (λ _. Q) → Q
+    go (Ok a) t q = q
+    go (Err e) t q = absurd t
 
 pub run_keeps : {S : Type 0} (m : Meaning S) (budget : ℕ) (p q : Position S) → Ran m budget p q → (q.places ≡ p.places) × (q.limit ≡ p.limit)
 run_keeps m budget p q r =

@@ -5,6 +5,7 @@ ghost use Rattle.std.specs.Prelude.{◌≡◌, replicate, IfOk, vec_len};
 
 use std::alloc::{AllocError, Global};
 
+pub mod halt;
 pub mod search;
 #[cfg(test)]
 mod tests;

@@ -1,13 +1,15 @@
-// An inquiry in tables of its places: no call on it is turned down for their lengths.
+// An inquiry in tables of its places: after open, no call on it is turned down for their lengths.
 ghost use Rattle.std.specs.Prelude.{◌≡◌, vec_len};
 ghost use Rattle.inquiry.specs.Record.{reported};
 
 use crate::Tables;
+use crate::halt::Halt;
 use graph::Graph;
 use inquiry::record::Inquiry;
 use inquiry::refusal::Refusal;
 use inquiry::report::Report;
-use std::alloc::{AllocError, Global};
+use inquiry::standing::Standing;
+use std::alloc::Global;
 
 // How many places a search has at first.
 pub const PLACES: usize = 512;
@@ -26,12 +28,11 @@ pub struct Search<S> {
 }
 
 impl<S: Copy> Search<S> {
-    ghost use Rattle.std.specs.Prelude.{◌<◌, ◌≤◌, IfOk, OnErr};
-    ghost use Rattle.inquiry.specs.declared.standing.Standing.TheVariants.{Running, Full};
+    ghost use Rattle.std.specs.Prelude.{IfOk};
     ghost use Rattle.inquiry.specs.Calls.{open_refusal, Turned, Ran};
     ghost use Rattle.inquiry.specs.Course.{Course, Promise, Onward};
-    ghost use Rattle.inquiry.specs.Position.{opened, widened};
-    ghost use Rattle.tables.specs.Search.{place, Placed};
+    ghost use Rattle.inquiry.specs.Position.{opened};
+    ghost use Rattle.tables.specs.Search.{place, halted, Placed, Widened};
 
     // Begins an inquiry in the tables.
     pub fn open<G: Graph<State = S>>(
@@ -53,11 +54,13 @@ impl<S: Copy> Search<S> {
     }
 
     // Sweeps until so many are counted or the inquiry does not run.
-    pub fn run<G: Graph<State = S>>(&mut self, graph: &G, budget: u32)
-        requires running { (place self.old).standing ≡ Running }
-        ensures steps { Ran (G.means graph.now) budget (place self.old) (place self.new) }
-        ensures onward { Onward (G.means graph.now) (place self.old) (place self.new) }
+    pub fn run<G: Graph<State = S>>(&mut self, graph: &G, budget: u32) -> Result<(), Refusal>
+        ensures steps { Turned (halted self.old) result (self.new ≡ self.old) (λ _. Ran (G.means graph.now) budget (place self.old) (place self.new)) }
+        ensures onward { IfOk result (λ _. Onward (G.means graph.now) (place self.old) (place self.new)) }
     {
+        let Standing::Running = self.report::<G>().standing else {
+            return Err(Refusal::Stopped);
+        };
         let tables = &mut self.tables;
         self.inquiry
             .run(
@@ -67,23 +70,27 @@ impl<S: Copy> Search<S> {
                 &mut tables.work,
                 budget,
             )
-            .unwrap()
+            .unwrap();
+        Ok(())
     }
 
-    // Moves a full inquiry to longer tables, where it runs on.
+    // Moves a full inquiry to longer tables, where it runs on. No memory is asked for where it is turned down.
     pub fn widen<G: Graph<State = S>>(
         &mut self,
         heap: Global,
         graph: &G,
         places: usize,
-    ) -> Result<(), AllocError>
-        requires full { (place self.old).standing ≡ Full }
-        requires longer { (place self.old).places < places }
-        requires few { places ≤ 4096 }
-        ensures steps { IfOk result (λ _. place self.new ≡ widened places (place self.old)) }
+    ) -> Result<(), Halt>
+        ensures steps { Widened places self.old self.new result }
         ensures onward { IfOk result (λ _. Onward (G.means graph.now) (place self.old) (place self.new)) }
-        ensures same { OnErr result (self.new ≡ self.old) }
     {
+        let report = self.report::<G>();
+        let Standing::Full = report.standing else {
+            return Err(Halt::Refused(Refusal::Room));
+        };
+        if places <= report.places || places > MOST {
+            return Err(Halt::Refused(Refusal::Wider));
+        }
         let Tables {
             mut outer,
             mut inner,

@@ -8,6 +8,8 @@ ghost use Rattle.toy_graph.specs.Laws.{chain_lawful};
 use graph::Graph;
 
 #[cfg(test)]
+mod searches;
+#[cfg(test)]
 mod tests;
 
 // State 0 accepts and steps to itself under letter 0. Under letter 1 the states 1, 2 and 3 step to the one before.

@@ -1,4 +1,4 @@
--- Nothing turns the run down, and it keeps the places.
+-- Nothing turns the inquiry's run down, and it keeps the places.
 use Rattle.std.proofs.Common.{◌≡◌, length, sym, ap, ◌∙◌}
 use Rattle.inquiry.specs.Calls.{run_refusal}
 use Rattle.inquiry.specs.Record.{reported, position}

@@ -1,6 +1,6 @@
-// Why a pursuit has no report.
+// Why a search is not opened, or does not go on in longer tables.
 ghost use Rattle.std.specs.Prelude.{◌≡◌};
-ghost use Rattle.pursuit.specs.declared.halt.Halt.TheVariants.{Refused as RefusedBy, Memory as NoMemory};
+ghost use Rattle.tables.specs.declared.halt.Halt.TheVariants.{Refused as RefusedBy, Memory as NoMemory};
 
 use inquiry::refusal::Refusal;
 use std::alloc::AllocError;
@@ -9,7 +9,7 @@ use std::alloc::AllocError;
 // `From`s, and each `?` would need a `map_err`.
 #[derive(Clone, Copy, PartialEq, Eq, Debug)]
 pub enum Halt {
-    // the inquiry was not opened
+    // the inquiry turned the call down
     Refused(Refusal),
     // no memory for the tables
     Memory,
