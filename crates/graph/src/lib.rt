@@ -16,6 +16,7 @@ pub trait Graph {
     fn start(&self) -> Self::State
         ensures { result ≡ (means self.now).start };
 
+    // Whether a is accepting.
     fn accepts(&self, a: Self::State) -> bool
         ensures { result ≡ (means self.now).accepts a };
 
@@ -27,6 +28,7 @@ pub trait Graph {
     fn tops(&self) -> u32
         ensures { result ≡ (means self.now).tops };
 
+    // The top of a number: each state is below one of them.
     fn top(&self, i: u32) -> Self::State
         ensures { result ≡ (means self.now).top i };
 
@@ -34,6 +36,7 @@ pub trait Graph {
     fn slots(&self) -> u32
         ensures { result ≡ (means self.now).slots };
 
+    // What a slot holds, if anything: just the states below what the slots hold step under the letter to one below b.
     fn slot(&self, letter: u8, b: Self::State, i: u32) -> Option<Self::State>
         ensures { result ≡ (means self.now).slot letter b i };
 

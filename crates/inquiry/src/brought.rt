@@ -1,4 +1,5 @@
-// What a sweep brought, or what new tables bring.
+// What a sweep brought, or what new tables bring. No place and new room are among them, so that one function, `turn`,
+// matches the standing with what was brought, for `run` and `widen` alike.
 #[derive(Clone, Copy, Debug, PartialEq, Eq)]
 pub enum Brought {
     // the sweep found no place

@@ -2,12 +2,15 @@
 ghost use Rattle.std.specs.Prelude.{◌≡◌, ◌<◌, ◌≤◌, true};
 ghost use Rattle.inquiry.specs.Standing.{going as is_going};
 
-use super::report::Report;
+use crate::report::Report;
 
 mod bring;
 mod calls;
 mod reporting;
 mod turn;
+
+// The most places a table has.
+pub const MOST_PLACES: usize = 4096;
 
 #[derive(Drop)]
 pub struct Inquiry {

@@ -2,6 +2,9 @@
 ghost use Rattle.std.specs.Prelude.{◌≡◌};
 ghost use Rattle.inquiry.specs.Refusal.{number as numbered};
 
+use std::error::Error;
+use std::fmt;
+
 #[derive(Clone, Copy, Debug, PartialEq, Eq)]
 pub enum Refusal {
     // tables unequal, or of no place or more than 4,096
@@ -27,3 +30,19 @@ impl Refusal {
         self as u8
     }
 }
+
+impl fmt::Display for Refusal {
+    fn fmt<W: fmt::Write>(&self, f: &mut fmt::Formatter<W>) -> fmt::Result {
+        f.write_str(match self {
+            Refusal::Tables => "tables unequal, or of no place or more than 4,096",
+            Refusal::Limit => "a limit of 0",
+            Refusal::Tops => "more tops than places",
+            Refusal::Places => "a table that has not the inquiry's places",
+            Refusal::Stopped => "not running",
+            Refusal::Room => "not full",
+            Refusal::Wider => "new tables unequal, not longer, or of more than 4,096 places",
+        })
+    }
+}
+
+impl Error for Refusal {}

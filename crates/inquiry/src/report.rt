@@ -1,5 +1,5 @@
 // What an inquiry's record says: how it stands, where it is, and how many states outer and inner hold.
-ghost use Rattle.std.specs.Prelude.{◌≡◌, ◌<◌};
+ghost use Rattle.std.specs.Prelude.{◌≡◌, ◌<◌, ◌≤◌};
 ghost use Rattle.inquiry.specs.declared.standing.Standing.TheVariants.{Running};
 ghost use Rattle.inquiry.specs.Turn.{ticked, grown, next};
 
@@ -40,7 +40,7 @@ impl Report {
     }
 
     // Inner becomes outer, and the next round begins.
-    pub(crate) fn next_round(&mut self)
+    fn next_round(&mut self)
         requires { self.old.round < self.old.count }
         ensures { self.new ≡ next self.old }
     {
@@ -48,5 +48,16 @@ impl Report {
         self.inner = 0;
         self.round += 1;
         self.sweep = 0;
+    }
+
+    // Counts the sweep that ends a round.
+    pub(crate) fn end_round(&mut self)
+        requires runs { self.old.standing ≡ Running }
+        requires left { self.old.count < self.old.limit }
+        requires rounds { self.old.round ≤ self.old.count }
+        ensures { self.new ≡ next (ticked self.old) }
+    {
+        self.tick();
+        self.next_round();
     }
 }

@@ -1,5 +1,5 @@
 -- The graph of a model laid over a graph, and of a layer without a model that fits. Assumes nothing.
-use Rattle.std.specs.Prelude.{◌≡◌, ℕ, ◌*◌, Bool, true, false, cond, ◌&&◌, List, [], ◌∷◌, Some, None, vec_items, Option, ◌==◌, nat_le}
+use Rattle.std.specs.Prelude.{◌≡◌, ℕ, ◌*◌, Bool, true, false, cond, ◌&&◌, List, [], ◌∷◌, Some, None, vec_items, Option, option_and_then, ◌==◌, nat_le}
 use Rattle.std.specs.List.{range_with_len}
 use Rattle.formula.specs.Sets.{has}
 use Rattle.graph.specs.Lists.{products}
@@ -12,7 +12,7 @@ use Rattle.layer.specs.declared.layered.Phase.{Phase}
 use Rattle.layer.specs.declared.layered.Phase.TheVariants.{Above, Below}
 use Rattle.layer.specs.declared.spot.Spot.{Spot}
 use Rattle.layer.specs.Phases.{same, awaits, phase_after}
-use Rattle.layer.specs.Spots.{spot_at}
+use Rattle.layer.specs.Spots.{spot_at, count_of}
 
 abbrev pub layered : {S : Type 0} → ℕ → Phase → S → Layered S
 layered l p s = record { location = l; phase = p; state = s }
@@ -122,3 +122,7 @@ layer_means None m = unfitted m (λ x b i. None)
 abbrev pub fitted_model : {S : Type 0} → Option Model → Meaning S → Option Model
 fitted_model (Some t) m = cond (fits t m) (Some t) None
 fitted_model None m = None
+
+-- how many numbers the model that is laid has over so many below
+abbrev pub count_over : {S : Type 0} → Option Model → Meaning S → ℕ → Option ℕ
+count_over o m below = option_and_then (λ t. count_of t.head.locations below) (fitted_model o m)

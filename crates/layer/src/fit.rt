@@ -1,7 +1,7 @@
 // Layers over a graph: made without a model, and fitted with one.
 ghost use Rattle.std.specs.Prelude.{◌≡◌, Some, None, MatchOption};
 ghost use Rattle.layer.specs.Fits.{Fit};
-ghost use Rattle.layer.specs.Layers.{few as few_numbers, fits as fits_over, fitted_model, same_letters};
+ghost use Rattle.layer.specs.Layers.{few as few_numbers, fits as fits_over, fitted_model, same_letters as same_letters_of};
 
 use crate::Layer;
 use crate::misfit::Misfit;
@@ -9,6 +9,13 @@ use crate::spot::Numbers;
 use graph::Graph;
 use layout::source::Source;
 use sheet::model::Model;
+
+// Whether the model has the letters of the graph.
+fn same_letters<G: Graph>(model: &Model, below: &G) -> bool
+    ensures { result ≡ same_letters_of model.now (G.means below.now) }
+{
+    model.letters() == below.letters()
+}
 
 // Whether the layer would have few enough tops and slots.
 fn few<G: Graph>(model: &Model, below: &G) -> bool
@@ -22,7 +29,7 @@ fn few<G: Graph>(model: &Model, below: &G) -> bool
 fn fits<G: Graph>(model: &Model, below: &G) -> bool
     ensures { result ≡ fits_over model.now (G.means below.now) }
 {
-    model.letters() == below.letters() && few(model, below)
+    same_letters(model, below) && few(model, below)
 }
 
 impl<G> Layer<G> {
@@ -39,7 +46,7 @@ impl<G: Graph> Layer<G> {
     pub fn fit(&mut self, model: Model) -> Result<(), Misfit>
         ensures { Fit model (G.means self.old.below) self.old self.new result }
     {
-        if model.letters() != self.below.letters() {
+        if !same_letters(&model, &self.below) {
             return Err(Misfit::Letters(model));
         }
         if !few(&model, &self.below) {
@@ -49,7 +56,7 @@ impl<G: Graph> Layer<G> {
         Ok(())
     }
 
-    // The model, if it fits. No field can say that it fits the graph below, so that is asked each time.
+    // The model, if it fits. That is asked each time: a field could say it only of a graph, and `new` takes any `G`.
     pub(crate) fn fitted(&self) -> Option<&Model>
         ensures { MatchOption result (fitted_model self.now.model (G.means self.now.below) ≡ None) (λ t. fitted_model self.now.model (G.means self.now.below) ≡ Some t.now) }
     {

@@ -18,12 +18,12 @@ pub struct Layered<S> {
 
 impl Phase {
     // The phase after a state is left whose location and whose state below accept or not.
-    pub(crate) fn after(self, location: bool, state: bool) -> Phase
-        ensures { result ≡ phase_after location state self }
+    pub(crate) fn after(self, above_accepts: bool, below_accepts: bool) -> Phase
+        ensures { result ≡ phase_after above_accepts below_accepts self }
     {
         match self {
-            Phase::Above if location => Phase::Below,
-            Phase::Below if state => Phase::Above,
+            Phase::Above if above_accepts => Phase::Below,
+            Phase::Below if below_accepts => Phase::Above,
             _ => self,
         }
     }

@@ -1,7 +1,8 @@
 // A layer: a model laid over any graph, so that both move under the same letters.
 #![tactic(auto)]
 
-ghost use Rattle.layer.specs.Layers.{layer_means};
+ghost use Rattle.std.specs.Prelude.{◌≡◌};
+ghost use Rattle.layer.specs.Layers.{layer_means, count_over};
 ghost use Rattle.layer.specs.Laws.{layer_lawful};
 
 pub mod both;
@@ -22,6 +23,16 @@ use sheet::model::Model;
 pub struct Layer<G> {
     below: G,
     model: Option<Model>,
+}
+
+impl<G: Graph> Layer<G> {
+    // How many there are over so many below: none without a model that fits, or past 65,536.
+    fn count(&self, below: u32) -> Option<u32>
+        ensures { result ≡ count_over self.now.model (G.means self.now.below) below }
+    {
+        let model = self.fitted()?;
+        Numbers::over(model, below).count()
+    }
 }
 
 impl<G: Graph> Graph for Layer<G> {
@@ -52,9 +63,7 @@ impl<G: Graph> Graph for Layer<G> {
     }
 
     fn tops(&self) -> u32 {
-        self.fitted()
-            .and_then(|model| Numbers::over(model, self.below.tops()).count())
-            .unwrap_or(1)
+        self.count(self.below.tops()).unwrap_or(1)
     }
 
     fn top(&self, i: u32) -> Layered<G::State> {
@@ -68,9 +77,7 @@ impl<G: Graph> Graph for Layer<G> {
     }
 
     fn slots(&self) -> u32 {
-        self.fitted()
-            .and_then(|model| Numbers::over(model, self.below.slots()).count())
-            .unwrap_or(0)
+        self.count(self.below.slots()).unwrap_or(0)
     }
 
     // Where the model does not fit there are no slots, so that is not asked.

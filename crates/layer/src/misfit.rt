@@ -3,9 +3,11 @@ ghost use Rattle.std.specs.Prelude.{◌≡◌};
 ghost use Rattle.layer.specs.Misfits.{number as numbered};
 
 use sheet::model::Model;
+use std::error::Error;
+use std::fmt;
 
-// The model is handed back. It has no `Debug`, so this has none, and is no `Error`.
-#[derive(Drop)]
+// The model is handed back.
+#[derive(PartialEq, Debug, Drop)]
 pub enum Misfit {
     // its letters are not those below
     Letters(Model),
@@ -24,3 +26,14 @@ impl Misfit {
         }
     }
 }
+
+impl fmt::Display for Misfit {
+    fn fmt<W: fmt::Write>(&self, f: &mut fmt::Formatter<W>) -> fmt::Result {
+        f.write_str(match self {
+            Misfit::Letters(_) => "the model's letters are not those below",
+            Misfit::Counts(_) => "more than 65,536 tops or slots",
+        })
+    }
+}
+
+impl Error for Misfit {}

@@ -30,9 +30,9 @@ impl WriteFault {
 
 impl fmt::Display for WriteFault {
     fn fmt<W: fmt::Write>(&self, f: &mut fmt::Formatter<W>) -> fmt::Result {
-        match self {
-            WriteFault::TooFewBytes => write!(f, "the bytes given are too few"),
-        }
+        f.write_str(match self {
+            WriteFault::TooFewBytes => "the bytes given are too few",
+        })
     }
 }
 
@@ -54,6 +54,9 @@ fn count_blocks<S: Source>(source: &S) -> usize
     }
     usize::from(cursor.block) + 1
 }
+
+// Source, cell and bytes stay three parameters in the parts below: the bytes are lent anew to each, and the trait takes the
+// cell's number, so that each would take a struct of source and cell apart again.
 
 // The tokens of a cell, a byte each, over all of `out`.
 fn put_tokens<S: Source>(source: &S, cell: usize, out: &mut [u8])

@@ -3,9 +3,9 @@ ghost use Rattle.std.specs.Prelude.{◌≡◌, length, take};
 ghost use Rattle.graph.specs.Meaning.{Meaning};
 ghost use Rattle.inquiry.specs.Bring.{verdict as verdict_of, Brings};
 
-use super::super::brought::Brought;
-use super::super::sweep::{copy, sweep};
 use super::Inquiry;
+use crate::brought::Brought;
+use crate::sweep::{copy, sweep};
 use antichain::fill::Fill;
 use antichain::{covered, within};
 use graph::Graph;
@@ -24,6 +24,7 @@ fn verdict<G: Graph>(graph: &G, former: &[G::State], present: &[G::State]) -> Br
 }
 
 impl Inquiry {
+    // Three tables, as in `step`: a struct of their loans would have to promise that it still holds them.
     pub(super) fn bring<G: Graph>(
         &self,
         graph: &G,

@@ -7,12 +7,12 @@ ghost use Rattle.inquiry.specs.Course.{Course, Promise, Onward};
 ghost use Rattle.inquiry.specs.Position.{opened, swept, ran, widened};
 ghost use Rattle.inquiry.specs.Record.{reported, position};
 
-use super::super::brought::Brought;
-use super::super::refusal::Refusal;
-use super::super::report::Report;
-use super::super::standing::Standing;
-use super::super::sweep::{copy, tops};
-use super::Inquiry;
+use super::{Inquiry, MOST_PLACES};
+use crate::brought::Brought;
+use crate::refusal::Refusal;
+use crate::report::Report;
+use crate::standing::Standing;
+use crate::sweep::{copy, tops};
 use antichain::fill::Fill;
 use graph::Graph;
 
@@ -29,7 +29,7 @@ impl Inquiry {
         ensures onward { IfOk result (λ i. Course (G.means graph.now) (position (reported i) outer.new inner.now) × Promise (G.means graph.now) (position (reported i) outer.new inner.now)) }
     {
         let places = outer.len();
-        if places < 1 || places > 4096 || inner.len() != places || work.len() != places {
+        if !(1..=MOST_PLACES).contains(&places) || inner.len() != places || work.len() != places {
             return Err(Refusal::Tables);
         }
         if limit == 0 {
@@ -40,7 +40,7 @@ impl Inquiry {
         }
         let Some(Fill { held, .. }) = tops(graph, outer) else {
             // there is a place for each top
-            unreachable()
+            unreachable!()
         };
         Ok(Inquiry {
             report: Report {
@@ -126,7 +126,7 @@ impl Inquiry {
         if new_inner.len() != places
             || new_work.len() != places
             || places <= self.report.places
-            || places > 4096
+            || places > MOST_PLACES
         {
             return Err(Refusal::Wider);
         }

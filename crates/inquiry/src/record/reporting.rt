@@ -4,12 +4,12 @@ ghost use Rattle.graph.specs.Meaning.{Meaning};
 ghost use Rattle.inquiry.specs.Course.{Course, Promise};
 ghost use Rattle.inquiry.specs.Record.{reported, position};
 
-use super::super::report::Report;
 use super::Inquiry;
+use crate::report::Report;
 use graph::Graph;
 
 impl Inquiry {
-    // It keeps the promise wherever a course leads to it.
+    // The report. Wherever a course leads to it, its promise holds.
     pub fn report<G: Graph>(&self) -> Report
         ensures is { result ≡ reported self.now }
         ensures onward { (g : G) (outer inner : List G.State) → Course (G.means g) (position result outer inner) → Promise (G.means g) (position result outer inner) }

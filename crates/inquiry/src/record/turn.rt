@@ -3,9 +3,9 @@ ghost use Rattle.std.specs.Prelude.{◌≡◌};
 ghost use Rattle.inquiry.specs.Record.{reported};
 ghost use Rattle.inquiry.specs.Turn.{turned, Meets};
 
-use super::super::brought::Brought;
-use super::super::standing::Standing;
 use super::Inquiry;
+use crate::brought::Brought;
+use crate::standing::Standing;
 
 impl Inquiry {
     pub(crate) fn turn(&mut self, brought: Brought)
@@ -19,19 +19,14 @@ impl Inquiry {
                 self.report.grow(held);
             }
             (Standing::Running, Brought::Lost) => {
-                self.report.tick();
-                self.report.next_round();
+                self.report.end_round();
                 self.report.standing = Standing::Impossible;
             }
             (Standing::Running, Brought::Settled) => {
-                self.report.tick();
-                self.report.next_round();
+                self.report.end_round();
                 self.report.standing = Standing::Possible;
             }
-            (Standing::Running, Brought::Shrunk) => {
-                self.report.tick();
-                self.report.next_round();
-            }
+            (Standing::Running, Brought::Shrunk) => self.report.end_round(),
             (Standing::Full, Brought::Room(places)) => {
                 self.report.places = places;
                 self.report.standing = Standing::Running;

@@ -13,4 +13,4 @@ returns-clause-onward g c =
     let m = g.G.Graph.means c.args.graph.now in
     let places = length c.args.outer.now in
     let q = position (record { standing = Running; round = 0; sweep = 0; count = 0; limit = c.args.limit; places = places; outer = c.in-Some.field-0.held; inner = 0 }) c.tops-2.new.outer c.args.inner.now in
-    opened_onward m (g.met.G.Graph.lawful c.args.graph.now) c.args.limit places q (search rules) (omega arith) c.if-places-lt1.false c.if-places-gt4096.false (omega arith)
+    opened_onward m (g.met.G.Graph.lawful c.args.graph.now) c.args.limit places q (search rules) (omega arith) (omega arith) (omega arith) (omega arith)

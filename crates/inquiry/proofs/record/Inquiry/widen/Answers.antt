@@ -18,4 +18,4 @@ returns-clause-onward g c = λ graph.
     let m = g.G.Graph.means graph in
     let p = position (reported c.args.self.now) c.args.outer.now c.args.inner.now in
     let q = position (reported c.turn.new.self) c.copy.new.to c.copy-2.new.to in
-    widened_onward m (g.met.G.Graph.lawful graph) (length c.args.new_outer.now) p q (search rules) c.in-Full.is c.if-places-self.false c.if-places-gt4096.false
+    widened_onward m (g.met.G.Graph.lawful graph) (length c.args.new_outer.now) p q (search rules) c.in-Full.is c.if-places-self.false c.if-places-gt-MOST_PLACES.false
