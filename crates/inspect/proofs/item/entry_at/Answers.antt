@@ -1,5 +1,5 @@
 -- What lies behind a place of a block, before its check.
-use Rattle.std.proofs.Common.{◌≤◌, length, ap, ◌∙◌, arith, length-drop, length-take}
+use Rattle.std.proofs.Common.{length, ap, ◌∙◌, arith, length-drop, length-take}
 use Rattle.std.proofs.lemmas.List.{take_rest}
 use Rattle.inspect.proofs.item.entry_at.Goals as goal
 
