@@ -30,7 +30,7 @@ impl<'a> Model for Entries<'a> {
 }
 
 impl<'a> Entries<'a> {
-    // All the entries of block k.
+    // All the entries of block k. It takes any bytes, as item_at does, and so no Block, whose bytes are 512.
     pub fn of(k: u8, block: &'a [u8]) -> Entries<'a>
         ensures { result ≡ entries k 2 (body block.now) }
     {

@@ -17,7 +17,7 @@ use crate::placed::PlacedEntry;
 // The most tokens that the entries of a sheet have together.
 const MOST_TOKENS: u16 = 4096;
 
-// How far the entries have come: the least place, 8 × location + letter, that the next may have, and the tokens so far.
+// How far the entries have come: the least key, 8 × location + letter, that the next may have, and the tokens so far.
 #[derive(Clone, Copy)]
 struct Progress {
     least: u16,

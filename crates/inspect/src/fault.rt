@@ -22,7 +22,7 @@ pub enum FormulaFault {
 
 #[derive(Clone, Copy, PartialEq, Eq, Debug)]
 pub enum EntryFault {
-    // location, letter, no tokens, past byte 509, or out of order
+    // a location or letter that the head lacks, no tokens, past byte 509, or out of order
     Entry(Place),
     // more tokens in all than a sheet may have
     Tokens(Place),
@@ -31,9 +31,13 @@ pub enum EntryFault {
 
 #[derive(Clone, Copy, PartialEq, Eq, Debug)]
 pub enum BlockFault {
+    // not 1 to 64 blocks
     Length,
+    // a block's check is not the one of its bytes
     Check(Place),
+    // a block states another kind, or another number
     Kind(Place),
+    // a field of the head out of its range, or a sort that is not asked for
     Head(Place),
     Entry(EntryFault),
 }
