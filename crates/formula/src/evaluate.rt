@@ -29,8 +29,8 @@ fn read(stack: Stack, token: Token, set: u32) -> Option<Stack>
         Token::Location(l) => stack.push(contains(set, l)),
         Token::True => stack.push(true),
         Token::False => stack.push(false),
-        Token::And => stack.and(),
-        Token::Or => stack.or(),
+        Token::And => stack.join(|x, y| x && y),
+        Token::Or => stack.join(|x, y| x || y),
     }
 }
 

@@ -1,5 +1,5 @@
 // The values that wait while tokens are read: at most 32.
-ghost use Rattle.std.specs.Prelude.{◌≡◌, ◌<◌, ◌&&◌, ◌||◌, List, [], ◌∷◌, length, Some, MatchOption, IfSome};
+ghost use Rattle.std.specs.Prelude.{◌≡◌, ◌<◌, Bool, List, [], ◌∷◌, length, Some, MatchOption, IfSome};
 ghost use Rattle.formula.specs.Machine.{pushed, joined, only};
 ghost use Rattle.formula.specs.Stack.{Waits};
 
@@ -45,22 +45,14 @@ impl Stack {
         }
     }
 
-    // The two newest values joined by and, if two wait.
-    pub(crate) fn and(self) -> Option<Stack>
-        ensures { Waits result (λ s. s) (joined (λ x y. x && y) self) }
+    // The two newest values joined, if two wait.
+    pub(crate) fn join<F: Fn(bool, bool) -> bool>(self, op: F) -> Option<Stack>
+        requires { (x y : Bool) → F.pre op x y }
+        ensures { (m : Bool → Bool → Bool) → ((x y r : Bool) → F.post op x y r → r ≡ m x y) → Waits result (λ s. s) (joined m self) }
     {
         let (rest, y) = self.pop()?;
         let (rest, x) = rest.pop()?;
-        Some(rest.put(x && y))
-    }
-
-    // The two newest values joined by or, if two wait.
-    pub(crate) fn or(self) -> Option<Stack>
-        ensures { Waits result (λ s. s) (joined (λ x y. x || y) self) }
-    {
-        let (rest, y) = self.pop()?;
-        let (rest, x) = rest.pop()?;
-        Some(rest.put(x || y))
+        Some(rest.put(op(x, y)))
     }
 
     // The value that waits, if it waits alone.

@@ -1,6 +1,6 @@
 // The tokens of a formula in postfix order, and the bytes that stand for them.
-ghost use Rattle.std.specs.Prelude.{◌≡◌};
-ghost use Rattle.formula.specs.Tokens.{code, Stands};
+ghost use Rattle.std.specs.Prelude.{◌≡◌, Some};
+ghost use Rattle.formula.specs.Tokens.{code, no_token_words, Stands};
 
 use std::error::Error;
 use std::fmt;
@@ -50,6 +50,8 @@ impl From<Token> for u8 {
 }
 
 impl fmt::Display for NoToken {
+    ghost output = { λ e. Some (no_token_words e) };
+
     fn fmt<W: fmt::Write>(&self, f: &mut fmt::Formatter<W>) -> fmt::Result {
         write!(f, "no token has byte {}", self.0)
     }

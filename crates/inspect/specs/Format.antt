@@ -1,5 +1,5 @@
 -- The layout of a sheet: blocks of 512 bytes, their check, and what the head block says. Assumes nothing.
-use Rattle.std.specs.Prelude.{◌≡◌, ℕ, suc, ◌+◌, ◌*◌, ◌/◌, ◌%◌, ◌^◌, Bool, true, false, cond, List, [], ◌∷◌, length, take, drop, codes, Some, None, Option, Result, MatchResult, ◌==◌, slice_index}
+use Rattle.std.specs.Prelude.{◌≡◌, ℕ, suc, ◌+◌, ◌*◌, ◌/◌, ◌%◌, ◌^◌, Bool, true, false, cond, List, [], ◌∷◌, ◌++◌, length, take, drop, codes, decimal, Some, None, Option, Result, MatchResult, ◌==◌, slice_index}
 use Rattle.std.specs.Option.{unwrap_or}
 use Rattle.inspect.specs.declared.block.Kind.{Kind}
 use Rattle.inspect.specs.declared.block.Kind.TheVariants as kinds
@@ -56,9 +56,18 @@ abbrev pub sort_words : Sort → List ℕ
 sort_words sort.Rule = codes "rule"
 sort_words sort.Model = codes "model"
 
+-- what is said of a byte that stands for no sort
+abbrev pub no_sort_words : NoSort → List ℕ
+no_sort_words e = codes "no sort has byte " ++ decimal e.0
+
 -- the result is the sort that the byte stands for, or an error with the byte, which stands for none
 abbrev pub Stands : ℕ → Result Sort NoSort → Type 0
 Stands b r = MatchResult r (λ s. sort_of b ≡ Some s) (λ e. (sort_of b ≡ None) × (e.0 ≡ b))
+
+-- who asks for this sort alone
+abbrev pub asked_for : Sort → Asked
+asked_for sort.Rule = asked.Rule
+asked_for sort.Model = asked.Model
 
 abbrev pub takes : Asked → Sort → Bool
 takes asked.Rule sort.Rule = true

@@ -1,5 +1,5 @@
 -- What the readers of an item answer. Assumes nothing.
-use Rattle.std.specs.Prelude.{◌≡◌, ℕ, ◌<◌, ◌≤◌, ◌⊎◌, List, length, take, drop, Some, None, Ok, Err, Result}
+use Rattle.std.specs.Prelude.{◌≡◌, ℕ, ◌<◌, ◌≤◌, ◌⊎◌, List, length, take, drop, Some, None, Ok, Err, Option, Result}
 use Rattle.inspect.specs.declared.fault.BlockFault.{BlockFault}
 use Rattle.inspect.specs.declared.fault.BlockFault.TheVariants.{Length, Entry as InEntry}
 use Rattle.inspect.specs.declared.fault.EntryFault.{EntryFault}
@@ -8,17 +8,17 @@ use Rattle.inspect.specs.declared.fault.Place.{Place}
 use Rattle.inspect.specs.declared.head.Asked.{Asked}
 use Rattle.inspect.specs.declared.item.Item.{Item}
 use Rattle.inspect.specs.declared.item.Item.TheVariants.{Head, Entry, End}
+use Rattle.inspect.specs.declared.placed.PlacedEntry.{PlacedEntry}
 use Rattle.inspect.specs.Checks.{first, head_checks}
 use Rattle.inspect.specs.Entries.{begins, nothing, past, an_entry}
 use Rattle.inspect.specs.Format.{block, head}
 use Rattle.inspect.specs.Refusals.{block_refusal}
 
--- the item that begins at the first of these bytes, which end with byte 509
-abbrev pub ItemAt : List ℕ → Place → Result Item EntryFault → Type 0
-ItemAt rest place (Ok (Head h)) = ⊥
-ItemAt rest place (Ok (Entry l a ts)) = (begins rest ≡ an_entry l a ts.now) × (length ts.now ≤ 255)
-ItemAt rest place (Ok End) = begins rest ≡ nothing
-ItemAt rest place (Err f) = ((l : ℕ) × (begins rest ≡ past l)) × (f ≡ EntryOut place)
+-- the entry that begins at the first of these bytes, which end with byte 509; none where the entries end
+abbrev pub EntryAt : List ℕ → Place → Result (Option PlacedEntry) EntryFault → Type 0
+EntryAt rest place (Ok None) = begins rest ≡ nothing
+EntryAt rest place (Ok (Some e)) = (begins rest ≡ an_entry e.location e.letter e.tokens.now) × (length e.tokens.now ≤ 255) × (e.place ≡ place)
+EntryAt rest place (Err f) = ((l : ℕ) × (begins rest ≡ past l)) × (f ≡ EntryOut place)
 
 -- block 0 of a sheet that is too short for one, or whose head is out of range, or an entry past byte 509
 abbrev pub Amiss : Asked → List ℕ → Place → BlockFault → Type 0

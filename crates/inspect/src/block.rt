@@ -1,10 +1,12 @@
-// Blocks: their check, their kind and their number.
-ghost use Rattle.std.specs.Prelude.{◌≡◌, take};
+// Blocks: their check, their kind, their number and their entries.
+ghost use Rattle.std.specs.Prelude.{◌≡◌, ◌+◌, ◌<◌, take};
 ghost use Rattle.inspect.specs.Checks.{block_checks};
-ghost use Rattle.inspect.specs.Format.{block, check_of, kind, kind_code};
+ghost use Rattle.inspect.specs.Entries.{entries};
+ghost use Rattle.inspect.specs.Format.{block, body, check_of, kind, kind_code};
 ghost use Rattle.inspect.specs.Judged.{Judged};
 ghost use Rattle.inspect.specs.Refusals.{block_refusal};
 
+use crate::entries::Entries;
 use crate::fault::{BlockFault, Place};
 
 pub const BLOCK: usize = 512;
@@ -69,22 +71,55 @@ impl From<Kind> for u8 {
     }
 }
 
-// Whether block k states its check, its kind and its number.
-pub(crate) fn check_block(k: u8, block: &[u8; BLOCK]) -> Result<(), BlockFault>
-    ensures { Judged block_refusal (block_checks k block.now) (λ _. Unit {0}) result }
-{
-    let stated = u16::from_le_bytes([block[CHECK], block[CHECK + 1]]);
-    if stated != check_sum(block) {
-        return Err(BlockFault::Check(Place {
-            block: k,
-            byte: 510,
-        }));
+// A block of a sheet, and which of them it is.
+#[derive(Clone, Copy, PartialEq, Eq, Debug)]
+pub struct Block<'a> {
+    pub number: u8,
+    pub bytes: &'a [u8; BLOCK],
+}
+
+impl<'a> Block<'a> {
+    // Block i of those behind the head.
+    pub fn behind_head(i: usize, bytes: &'a [u8; BLOCK]) -> Block<'a>
+        requires { i < 255 }
+        ensures number { result.number ≡ i + 1 }
+        ensures bytes { result.bytes.now ≡ bytes.now }
+    {
+        Block {
+            number: i as u8 + 1,
+            bytes,
+        }
     }
-    if block[0] != u8::from(Kind::of(k)) {
-        return Err(BlockFault::Kind(Place { block: k, byte: 0 }));
+
+    // Whether it states its check, its kind and its number.
+    pub(crate) fn check(self) -> Result<(), BlockFault>
+        ensures { Judged block_refusal (block_checks self.entry.number self.entry.bytes.now) (λ _. Unit {0}) result }
+    {
+        let Block {
+            number: block,
+            bytes,
+        } = self;
+        let stated = u16::from_le_bytes([bytes[CHECK], bytes[CHECK + 1]]);
+        if stated != check_sum(bytes) {
+            return Err(BlockFault::Check(Place {
+                block,
+                byte: CHECK as u16,
+            }));
+        }
+        if bytes[0] != u8::from(Kind::of(block)) {
+            return Err(BlockFault::Kind(Place { block, byte: 0 }));
+        }
+        if bytes[1] != block {
+            return Err(BlockFault::Kind(Place { block, byte: 1 }));
+        }
+        Ok(())
     }
-    if block[1] != k {
-        return Err(BlockFault::Kind(Place { block: k, byte: 1 }));
+
+    // Its entries.
+    pub fn entries(self) -> Entries<'a>
+        ensures { result ≡ entries self.entry.number 2 (body self.entry.bytes.now) }
+    {
+        let Block { number, bytes } = self;
+        Entries::of(number, bytes)
     }
-    Ok(())
 }

@@ -8,7 +8,7 @@ ghost use Rattle.inspect.specs.Judged.{Judged};
 ghost use Rattle.inspect.specs.Refusals.{block_refusal};
 
 use crate::MOST_BLOCKS;
-use crate::block::{BLOCK, check_block};
+use crate::block::{BLOCK, Block};
 use crate::fault::BlockFault;
 
 // The block of the head, and those of the entries, from block 1 on.
@@ -38,9 +38,13 @@ impl<'a> Blocks<'a> {
     pub(crate) fn check(&self) -> Result<(), BlockFault>
         ensures { Judged block_refusal (each_block_checks 0 (self.now.head.now ∷ self.now.entries.now)) (λ _. Unit {0}) result }
     {
-        check_block(0, self.head)?;
-        for (i, block) in self.entries.iter().enumerate() {
-            check_block(i as u8 + 1, block)?;
+        Block {
+            number: 0,
+            bytes: self.head,
+        }
+        .check()?;
+        for (i, bytes) in self.entries.iter().enumerate() {
+            Block::behind_head(i, bytes).check()?;
         }
         Ok(())
     }

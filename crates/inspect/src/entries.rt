@@ -7,7 +7,7 @@ ghost use Rattle.inspect.specs.Yielded.{NextEntry};
 
 use crate::block::CHECK;
 use crate::fault::{EntryFault, Place};
-use crate::item::{Item, entry_at};
+use crate::item::entry_at;
 use crate::placed::PlacedEntry;
 use std::marker::Model;
 
@@ -30,7 +30,7 @@ impl<'a> Model for Entries<'a> {
 }
 
 impl<'a> Entries<'a> {
-    // All the entries of block k.
+    // All the entries of block k. It takes any bytes, as item_at does, and so no Block, whose bytes are 512.
     pub fn of(k: u8, block: &'a [u8]) -> Entries<'a>
         ensures { result ≡ entries k 2 (body block.now) }
     {
@@ -49,25 +49,12 @@ impl<'a> Iterator for Entries<'a> {
     ghost remaining = { item_count (λ es. es) };
 
     fn next(&mut self) -> Option<Result<PlacedEntry<'a>, EntryFault>> {
-        let place = self.place;
-        match entry_at(self.block, place) {
-            Ok(
-                Item::Entry {
-                    location,
-                    letter,
-                    tokens,
-                },
-            ) => {
-                self.place.byte += 3 + tokens.len() as u16;
-                Some(Ok(PlacedEntry {
-                    place,
-                    location,
-                    letter,
-                    tokens,
-                }))
+        match entry_at(self.block, self.place) {
+            Ok(Some(entry)) => {
+                self.place.byte += 3 + entry.tokens.len() as u16;
+                Some(Ok(entry))
             }
-            Ok(Item::Head(_)) => None,
-            Ok(Item::End) => None,
+            Ok(None) => None,
             Err(fault) => {
                 self.place.byte = CHECK as u16;
                 Some(Err(fault))

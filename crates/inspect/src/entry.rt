@@ -8,9 +8,8 @@ ghost use Rattle.inspect.specs.Judged.{Judged, Passes};
 ghost use Rattle.inspect.specs.Refusals.{entry_refusal};
 ghost use Rattle.inspect.specs.Yielded.{placed_entry};
 
-use crate::block::BLOCK;
+use crate::block::Block;
 use crate::blocks::Blocks;
-use crate::entries::Entries;
 use crate::fault::EntryFault;
 use crate::head::Head;
 use crate::placed::PlacedEntry;
@@ -18,7 +17,7 @@ use crate::placed::PlacedEntry;
 // The most tokens that the entries of a sheet have together.
 const MOST_TOKENS: u16 = 4096;
 
-// How far the entries have come: the least place, 8 × location + letter, that the next may have, and the tokens so far.
+// How far the entries have come: the least key, 8 × location + letter, that the next may have, and the tokens so far.
 #[derive(Clone, Copy)]
 struct Progress {
     least: u16,
@@ -56,12 +55,12 @@ impl Progress {
     }
 }
 
-// The entries of block k.
-fn scan(head: &Head, k: u8, block: &[u8; BLOCK], before: Progress) -> Result<Progress, EntryFault>
-    ensures { Passes entry_refusal (λ fs. entry_checks head.now before.least before.total (entries k 2 (body block.now) ++ fs)) (λ p fs. entry_checks head.now p.least p.total fs) result }
+// The entries of a block.
+fn scan(head: &Head, block: Block, before: Progress) -> Result<Progress, EntryFault>
+    ensures { Passes entry_refusal (λ fs. entry_checks head.now before.least before.total (entries block.entry.number 2 (body block.entry.bytes.now) ++ fs)) (λ p fs. entry_checks head.now p.least p.total fs) result }
 {
     let mut progress = before;
-    for entry in Entries::of(k, block) {
+    for entry in block.entries() {
         progress = progress.entry(head, &entry?)?;
     }
     Ok(progress)
@@ -72,8 +71,8 @@ pub(crate) fn check_entries(head: &Head, blocks: &Blocks) -> Result<(), EntryFau
     ensures { Judged entry_refusal (entry_checks head.now 0 0 (each_entries 1 blocks.now.entries.now)) (λ _. Unit {0}) result }
 {
     let mut progress = Progress::start();
-    for (i, block) in blocks.entries.iter().enumerate() {
-        progress = scan(head, i as u8 + 1, block, progress)?;
+    for (i, bytes) in blocks.entries.iter().enumerate() {
+        progress = scan(head, Block::behind_head(i, bytes), progress)?;
     }
     Ok(())
 }

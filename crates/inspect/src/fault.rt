@@ -1,6 +1,6 @@
 // What is wrong with a sheet, and where. Each layer has its own faults and carries those of the layer below.
 ghost use Rattle.std.specs.Prelude.{◌≡◌};
-ghost use Rattle.inspect.specs.Refusals.{formula_refusal, entry_refusal, block_refusal};
+ghost use Rattle.inspect.specs.Refusals.{block_refusal};
 ghost use Rattle.inspect.specs.declared.fault.BlockFault.TheVariants.{Entry as InEntry};
 ghost use Rattle.inspect.specs.declared.fault.EntryFault.TheVariants.{Formula as InFormula};
 
@@ -22,7 +22,7 @@ pub enum FormulaFault {
 
 #[derive(Clone, Copy, PartialEq, Eq, Debug)]
 pub enum EntryFault {
-    // location, letter, no tokens, past byte 509, or out of order
+    // a location or letter that the head lacks, no tokens, past byte 509, or out of order
     Entry(Place),
     // more tokens in all than a sheet may have
     Tokens(Place),
@@ -31,9 +31,13 @@ pub enum EntryFault {
 
 #[derive(Clone, Copy, PartialEq, Eq, Debug)]
 pub enum BlockFault {
+    // not 1 to 64 blocks
     Length,
+    // a block's check is not the one of its bytes
     Check(Place),
+    // a block states another kind, or another number
     Kind(Place),
+    // a field of the head out of its range, or a sort that is not asked for
     Head(Place),
     Entry(EntryFault),
 }
@@ -77,52 +81,31 @@ pub struct Refusal {
     pub place: Place,
 }
 
-impl FormulaFault {
-    fn refusal(self) -> Refusal
-        ensures { result ≡ formula_refusal self }
-    {
-        let (number, place) = match self {
-            FormulaFault::Token(place) => (6, place),
-            FormulaFault::Waiting(place) => (7, place),
-        };
-        Refusal {
-            layer: Layer::Formula,
-            number,
-            place,
-        }
-    }
-}
-
-impl EntryFault {
-    fn refusal(self) -> Refusal
-        ensures { result ≡ entry_refusal self }
-    {
-        let (number, place) = match self {
-            EntryFault::Entry(place) => (5, place),
-            EntryFault::Tokens(place) => (8, place),
-            EntryFault::Formula(fault) => return fault.refusal(),
-        };
-        Refusal {
-            layer: Layer::Entry,
-            number,
-            place,
-        }
-    }
-}
-
 impl BlockFault {
+    // The fault by its number, whichever layer found it.
     pub fn refusal(self) -> Refusal
         ensures { result ≡ block_refusal self }
     {
-        let (number, place) = match self {
-            BlockFault::Length => (1, Place { block: 0, byte: 0 }),
-            BlockFault::Check(place) => (2, place),
-            BlockFault::Kind(place) => (3, place),
-            BlockFault::Head(place) => (4, place),
-            BlockFault::Entry(fault) => return fault.refusal(),
+        let (layer, number, place) = match self {
+            BlockFault::Length => (Layer::Block, 1, Place { block: 0, byte: 0 }),
+            BlockFault::Check(place) => (Layer::Block, 2, place),
+            BlockFault::Kind(place) => (Layer::Block, 3, place),
+            BlockFault::Head(place) => (Layer::Block, 4, place),
+            BlockFault::Entry(EntryFault::Entry(place)) => (Layer::Entry, 5, place),
+            BlockFault::Entry(EntryFault::Formula(FormulaFault::Token(place))) => (
+                Layer::Formula,
+                6,
+                place,
+            ),
+            BlockFault::Entry(EntryFault::Formula(FormulaFault::Waiting(place))) => (
+                Layer::Formula,
+                7,
+                place,
+            ),
+            BlockFault::Entry(EntryFault::Tokens(place)) => (Layer::Entry, 8, place),
         };
         Refusal {
-            layer: Layer::Block,
+            layer,
             number,
             place,
         }

@@ -9,9 +9,8 @@ ghost use Rattle.inspect.specs.Format.{body};
 ghost use Rattle.inspect.specs.Judged.{Judged, Passes, known_token, next_waiting};
 ghost use Rattle.inspect.specs.Refusals.{entry_refusal, formula_refusal};
 
-use crate::block::BLOCK;
+use crate::block::Block;
 use crate::blocks::Blocks;
-use crate::entries::Entries;
 use crate::fault::{EntryFault, FormulaFault, Place};
 use crate::head::{Head, Sort};
 use crate::placed::PlacedEntry;
@@ -69,12 +68,12 @@ fn check_formula(head: &Head, entry: &PlacedEntry) -> Result<(), FormulaFault>
     Ok(())
 }
 
-// The formulas of block k, of which every entry fits.
-fn spell(head: &Head, k: u8, block: &[u8; BLOCK]) -> Result<(), EntryFault>
-    requires { AllByRecursion (λ e. e.fits ≡ true) (entries k 2 (body block.now)) }
-    ensures { Passes entry_refusal (λ fs. token_checks head.now (entries k 2 (body block.now) ++ fs)) (λ _ fs. token_checks head.now fs) result }
+// The formulas of a block, of which every entry fits.
+fn spell(head: &Head, block: Block) -> Result<(), EntryFault>
+    requires { AllByRecursion (λ e. e.fits ≡ true) (entries block.number 2 (body block.bytes.now)) }
+    ensures { Passes entry_refusal (λ fs. token_checks head.now (entries block.entry.number 2 (body block.entry.bytes.now) ++ fs)) (λ _ fs. token_checks head.now fs) result }
 {
-    for entry in Entries::of(k, block) {
+    for entry in block.entries() {
         check_formula(head, &entry?)?;
     }
     Ok(())
@@ -85,8 +84,8 @@ pub(crate) fn check_formulas(head: &Head, blocks: &Blocks) -> Result<(), EntryFa
     requires { AllByRecursion (λ e. e.fits ≡ true) (each_entries 1 blocks.now.entries.now) }
     ensures { Judged entry_refusal (token_checks head.now (each_entries 1 blocks.now.entries.now)) (λ _. Unit {0}) result }
 {
-    for (i, block) in blocks.entries.iter().enumerate() {
-        spell(head, i as u8 + 1, block)?;
+    for (i, bytes) in blocks.entries.iter().enumerate() {
+        spell(head, Block::behind_head(i, bytes))?;
     }
     Ok(())
 }

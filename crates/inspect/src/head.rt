@@ -1,6 +1,6 @@
 // What the head block says.
 ghost use Rattle.std.specs.Prelude.{◌≡◌, ◌*◌, Some};
-ghost use Rattle.inspect.specs.Format.{sort_code, sort_words, takes, Stands};
+ghost use Rattle.inspect.specs.Format.{asked_for, no_sort_words, sort_code, sort_words, takes, Stands};
 
 use std::error::Error;
 use std::fmt;
@@ -15,7 +15,8 @@ pub enum Sort {
 #[derive(Clone, Copy, PartialEq, Eq, Debug)]
 pub struct NoSort(pub u8);
 
-// Which sorts a reader takes.
+// Which sorts a reader takes. It is no Option<Sort>: `None` would read as nothing asked for, and the format's three cases
+// have names.
 #[derive(Clone, Copy, PartialEq, Eq, Debug)]
 pub enum Asked {
     Rule,
@@ -69,12 +70,26 @@ impl fmt::Display for Sort {
 }
 
 impl fmt::Display for NoSort {
+    ghost output = { λ e. Some (no_sort_words e) };
+
     fn fmt<W: fmt::Write>(&self, f: &mut fmt::Formatter<W>) -> fmt::Result {
         write!(f, "no sort has byte {}", self.0)
     }
 }
 
 impl Error for NoSort {}
+
+// Who asks for this sort alone.
+impl From<Sort> for Asked {
+    ghost from_gives = { λ s a. a ≡ asked_for s };
+
+    fn from(sort: Sort) -> Asked {
+        match sort {
+            Sort::Rule => Asked::Rule,
+            Sort::Model => Asked::Model,
+        }
+    }
+}
 
 impl Asked {
     // Whether the reader takes sheets of this sort.

@@ -12,7 +12,14 @@ pub fn item_at<'a>(asked: Asked, sheet: &'a [u8], place: Place) -> Result<Item<'
     ensures { ItemIn asked sheet.now place result }
 {
     if place.block > 0 {
-        return Ok(entry_at(block_at(sheet, place.block), place)?);
+        return Ok(match entry_at(block_at(sheet, place.block), place)? {
+            Some(entry) => Item::Entry {
+                location: entry.location,
+                letter: entry.letter,
+                tokens: entry.tokens,
+            },
+            None => Item::End,
+        });
     }
     let Some(block) = sheet.first_chunk::<BLOCK>() else {
         return Err(BlockFault::Length);

@@ -46,6 +46,7 @@ impl fmt::Display for BlockFault {
     }
 }
 
+// The place is what a refusal tells, and its byte says which field it is, so the byte is no number for a kind.
 fn of_kind(place: Place) -> &'static str
     ensures { result.now ≡ kind_words place }
 {
@@ -56,6 +57,7 @@ fn of_kind(place: Place) -> &'static str
     }
 }
 
+// By the byte of the field, as above.
 fn of_head(place: Place) -> &'static str
     ensures { result.now ≡ head_words place.byte }
 {

@@ -1,11 +1,8 @@
 -- What rules and models have alike. Assumes nothing.
 use Rattle.std.specs.Prelude.{ℕ, ◌^◌, Bool, List, [], ◌∷◌, nat_lt}
 use Rattle.formula.specs.declared.token.Token.{Token}
-use Rattle.inspect.specs.declared.head.Asked.{Asked}
-use Rattle.inspect.specs.declared.head.Asked.TheVariants as asked
 use Rattle.inspect.specs.declared.head.Head.{Head}
 use Rattle.inspect.specs.declared.head.Sort.{Sort}
-use Rattle.inspect.specs.declared.head.Sort.TheVariants as sort
 use Rattle.inspect.specs.Denotes.{Content}
 use Rattle.layout.specs.Valid.{every}
 
@@ -23,8 +20,3 @@ fresh s = with_formulas (head_of s 1 1 0 0) ([] ∷ [])
 -- every set has only locations of the model
 abbrev pub small : ℕ → List ℕ → Bool
 small locations sets = every (λ m. nat_lt m (2 ^ locations)) sets
-
--- who asks for this sort alone
-abbrev pub asked_for : Sort → Asked
-asked_for sort.Rule = asked.Rule
-asked_for sort.Model = asked.Model

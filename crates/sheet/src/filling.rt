@@ -10,22 +10,15 @@ ghost use Rattle.sheet.specs.Tables.{formulas};
 use crate::faultless::Faultless;
 use crate::numbers::cell_number;
 use crate::table::{Table, blank, put};
-use inspect::block::BLOCK;
-use inspect::entries::Entries;
+use inspect::block::{BLOCK, Block};
 use std::alloc::{AllocError, Global};
 
-// The entries of block k, which all fit, each in its cell.
-fn fill_block(
-    heap: Global,
-    table: &mut Table,
-    letters: u8,
-    k: u8,
-    block: &[u8; BLOCK],
-) -> Result<(), AllocError>
-    requires { AllByRecursion (λ e. e.fits ≡ true) (entries k 2 (body block.now)) }
-    ensures { OnOk result ((fs : List Placed) → laid letters (formulas table.old) (map entry_of (entries k 2 (body block.now) ++ fs)) ≡ laid letters (formulas table.new) (map entry_of fs)) }
+// The entries of a block, which all fit, each in its cell.
+fn fill_block(heap: Global, table: &mut Table, letters: u8, block: Block) -> Result<(), AllocError>
+    requires { AllByRecursion (λ e. e.fits ≡ true) (entries block.number 2 (body block.bytes.now)) }
+    ensures { OnOk result ((fs : List Placed) → laid letters (formulas table.old) (map entry_of (entries block.entry.number 2 (body block.entry.bytes.now) ++ fs)) ≡ laid letters (formulas table.new) (map entry_of fs)) }
 {
-    for entry in Entries::of(k, block) {
+    for entry in block.entries() {
         let Ok(entry) = entry else { unreachable!() };
         let cell = cell_number(letters, entry.location, entry.letter);
         put(heap, table, cell, entry.tokens)?;
@@ -42,8 +35,13 @@ pub(crate) fn read_table(heap: Global, sheet: Faultless) -> Result<Table, AllocE
     let Some((_, entries)) = blocks.split_first() else {
         unreachable!()
     };
-    for (i, block) in entries.iter().enumerate() {
-        fill_block(heap, &mut table, sheet.head.letters, i as u8 + 1, block)?;
+    for (i, bytes) in entries.iter().enumerate() {
+        fill_block(
+            heap,
+            &mut table,
+            sheet.head.letters,
+            Block::behind_head(i, bytes),
+        )?;
     }
     Ok(table)
 }

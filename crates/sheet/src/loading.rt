@@ -1,9 +1,10 @@
 // Rules and models made fresh, loaded from a sheet, and written as a sheet.
 ghost use Rattle.std.specs.Prelude.{◌≡◌, IfOk};
 ghost use Rattle.inspect.specs.Contents.{contents};
+ghost use Rattle.inspect.specs.Format.{asked_for};
 ghost use Rattle.layout.specs.Writes.{Writes, ReadsBack};
 ghost use Rattle.layout.proofs.Valids.{test_valid};
-ghost use Rattle.sheet.specs.Automata.{asked_for, fresh, with_formulas};
+ghost use Rattle.sheet.specs.Automata.{fresh, with_formulas};
 ghost use Rattle.sheet.specs.Loads.{Loaded};
 
 use crate::cells::Cells;
@@ -11,20 +12,10 @@ use crate::error::LoadError;
 use crate::faultless::Faultless;
 use crate::headed::Headed;
 use formula::token::Token;
-use inspect::head::{Asked, Head, Sort};
+use inspect::head::{Asked, Head};
 use layout::source::Source;
 use layout::write::{WriteFault, write};
 use std::alloc::{AllocError, Global};
-
-// Who asks for this sort alone.
-fn asked_for(sort: Sort) -> Asked
-    ensures { result ≡ asked_for sort }
-{
-    match sort {
-        Sort::Rule => Asked::Rule,
-        Sort::Model => Asked::Model,
-    }
-}
 
 impl<C: Cells> Headed<C> {
     // What a sheet of its sort denotes.
@@ -58,7 +49,7 @@ impl<C: Cells> Headed<C> {
     pub fn load(&mut self, heap: Global, sheet: &[u8]) -> Result<(), LoadError>
         ensures { Loaded (asked_for C.sort) sheet.now (λ x c. C.Holds x.head x.cells c) self.old self.new result }
     {
-        let sheet = Faultless::of(asked_for(C::sort()), sheet)?;
+        let sheet = Faultless::of(Asked::from(C::sort()), sheet)?;
         *self = Headed::read(heap, sheet)?;
         Ok(())
     }

@@ -9,4 +9,4 @@ returns-in_err-progress c =
     let p = err_from_is_err_and c.from_residual.result c.from_residual.ensures.1 in
     rw (p.1, p.2)
     (c.loop-i.invariant
-    ∙ each_entries_pass c.args.blocks.now.entries.now c.loop-i.i [] c.loop-i-test.true (entry_checks c.args.head.now c.loop-i.progress.least c.loop-i.progress.total) (λ _. Some _) c.in_err-progress.ensures)
+    ∙ each_entries_pass c.args.blocks.now.entries.now c.loop-i.i [] c.loop-i-test.true (entry_checks c.args.head.now c.loop-i.progress.least c.loop-i.progress.total) (λ _. Some _) (rw (c.behind_head.ensures.number, c.behind_head.ensures.bytes) at c.in_err-progress.ensures))

@@ -9,4 +9,4 @@ abbrev pub invariant-loop-entry : goal.invariant-loop-entry
 invariant-loop-entry l =
     goal.iterator-loop-entry.can_next l.entry-iterator
     × goal.iterator-loop-entry.is_finite l.entry-iterator
-    × ((fs : List Placed) → first (entry_checks l.head l.fn.before.least l.fn.before.total (entries l.k 2 (body l.block) ++ fs)) ≡ first (entry_checks l.head l.progress.least l.progress.total (l.entry-iterator ++ fs)))
+    × ((fs : List Placed) → first (entry_checks l.head l.fn.before.least l.fn.before.total (entries l.block.number 2 (body l.block.bytes.now) ++ fs)) ≡ first (entry_checks l.head l.progress.least l.progress.total (l.entry-iterator ++ fs)))

@@ -11,4 +11,4 @@ invariant-loop-entry l =
     goal.iterator-loop-entry.can_next l.entry-iterator
     × goal.iterator-loop-entry.is_finite l.entry-iterator
     × AllByRecursion (λ e. e.fits ≡ true) l.entry-iterator
-    × ((fs : List Placed) → first (token_checks l.head (entries l.k 2 (body l.block) ++ fs)) ≡ first (token_checks l.head (l.entry-iterator ++ fs)))
+    × ((fs : List Placed) → first (token_checks l.head (entries l.block.number 2 (body l.block.bytes.now) ++ fs)) ≡ first (token_checks l.head (l.entry-iterator ++ fs)))

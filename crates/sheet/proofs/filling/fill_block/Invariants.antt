@@ -13,4 +13,4 @@ invariant-loop-entry l =
     goal.iterator-loop-entry.can_next l.entry-iterator
     × goal.iterator-loop-entry.is_finite l.entry-iterator
     × Fitting l.entry-iterator
-    × ((fs : List Placed) → laid l.initial.letters (formulas l.initial.table) (map entry_of (entries l.k 2 (body l.block) ++ fs)) ≡ laid l.initial.letters (formulas l.table) (map entry_of (l.entry-iterator ++ fs)))
+    × ((fs : List Placed) → laid l.initial.letters (formulas l.initial.table) (map entry_of (entries l.block.number 2 (body l.block.bytes.now) ++ fs)) ≡ laid l.initial.letters (formulas l.table) (map entry_of (l.entry-iterator ++ fs)))

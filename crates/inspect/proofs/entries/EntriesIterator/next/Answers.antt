@@ -1,27 +1,20 @@
 use Rattle.std.proofs.Common.{◌≡◌, ◌≤◌, length, take, Ok, sym, ap, ◌∙◌, subst, arith, length-take}
 use Rattle.std.proofs.lemmas.List.{drop_all}
-use Rattle.inspect.specs.Entries.{begins, nothing, an_entry}
-use Rattle.inspect.specs.Items.{ItemAt}
-use Rattle.inspect.proofs.Passing.{from, from_start, entries_next, entries_end, entries_past}
+use Rattle.inspect.specs.Entries.{begins, nothing}
+use Rattle.inspect.specs.Items.{EntryAt}
+use Rattle.inspect.proofs.Passing.{from, entries_next, entries_end, entries_past}
 use Rattle.inspect.proofs.entries.EntriesIterator.next.Goals as goal
-use Rattle.inspect.proofs.entries.EntriesIterator.next.Goals.{In-Ok-Entry}
 
--- the entry that was found
-found : (c : In-Ok-Entry) → (begins (from c.self.inside.block.now c.self.inside.place.byte) ≡ an_entry c.in-Ok-Entry.location c.in-Ok-Entry.letter c.in-Ok-Entry.tokens.now) × (length c.in-Ok-Entry.tokens.now ≤ 255)
-found c = subst (λ i. ItemAt (from c.self.inside.block.now c.self.inside.place.byte) c.self.inside.place (Ok i)) c.in-Ok-Entry.field-0-is c.in-Ok-Entry.ensures
+pub returns-in-Ok-Some : goal.returns-in-Ok-Some
+returns-in-Ok-Some c =
+    let s = c.self.inside in
+    let found = subst (λ o. EntryAt (from s.block.now s.place.byte) s.place (Ok o)) c.in-Ok-Some.field-0-is c.in-Ok-Some.ensures in
+    let steps = sym c.self.view_is ∙ entries_next s.place.block s.place.byte s.block.now _ _ _ found.0 in
+    record { steps = rw found.2 steps; goes = record { on = λ _. (tt, tt, omega (arith, ap length steps)); keeps = tt; rests = λ _. tt } }
 
-pub invariant_of-result : goal.invariant_of-result
-invariant_of-result c =
-    record { inside = from_start c.self.inside.block.now _ _ _ c.self.inside.place.byte c.self.invariant (found (goal.at.invariant_of-result c).In-Ok-Entry).0 }
-
-pub returns-in-Ok-Entry : goal.returns-in-Ok-Entry
-returns-in-Ok-Entry c =
-    let steps = sym c.self.view_is ∙ entries_next c.self.inside.place.block c.self.inside.place.byte c.self.inside.block.now _ _ _ (found (goal.at.returns-in-Ok-Entry c).In-Ok-Entry).0 in
-    record { steps = steps; goes = record { on = λ _. (tt, tt, omega (arith, ap length steps)); keeps = tt; rests = λ _. tt } }
-
-pub returns-in-Ok-End : goal.returns-in-Ok-End
-returns-in-Ok-End c =
-    let none = subst (λ i. ItemAt (from c.self.inside.block.now c.self.inside.place.byte) c.self.inside.place (Ok i)) c.in-Ok-End.field-0-is c.in-Ok-End.ensures in
+pub returns-in-Ok-None : goal.returns-in-Ok-None
+returns-in-Ok-None c =
+    let none = subst (λ o. EntryAt (from c.self.inside.block.now c.self.inside.place.byte) c.self.inside.place (Ok o)) c.in-Ok-None.field-0-is c.in-Ok-None.ensures in
     let end = sym c.self.view_is ∙ entries_end c.self.inside.place.block c.self.inside.place.byte _ none in
     record { steps = (end, end); goes = record { on = λ _. tt; keeps = tt; rests = λ _. tt } }
 
