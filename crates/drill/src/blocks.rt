@@ -47,7 +47,7 @@ pub const CHECKS: [Changes<'static>; 4] = [
     ("byte 509 of block 1 against its check", &[(1, 509, 1)], &[]),
 ];
 
-// Byte 13 of a head that sums up to 65,521, so its check is 0, or to a little more, and what it states instead.
+// Byte 13 of a head that sums up to 65,521, so its check is 0, or to a little more, and the check that it states.
 const LOW: [(&str, u8, [u8; 2]); 4] = [
     ("check 0 for the sum 0", 0, [0, 0]),
     ("check 65521 for the sum 0", 0, [0xf1, 0xff]),

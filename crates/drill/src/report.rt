@@ -2,8 +2,9 @@
 use crate::draft::{Draft, at};
 use crate::example::example;
 use anyhow::anyhow;
-use inspect::head::{Head, Sort};
-use sheet::automaton::{Automaton, load};
+use inspect::head::Head;
+use layout::source::Source;
+use sheet::automaton::load;
 use sheet::error::LoadError;
 
 // A label, a head, and the blocks of entries behind it.
@@ -17,10 +18,7 @@ pub type Changes<'a> = (&'a str, &'a [(u8, u16, u8)], &'a [u8]);
 pub(crate) fn tell(rt: &HostRuntime, label: &str, draft: &Draft) -> anyhow::Result<()> {
     match load(rt.alloc(), draft.bytes.as_slice()) {
         Ok(automaton) => {
-            let sort = match automaton {
-                Automaton::Rule(_) => Sort::Rule,
-                Automaton::Model(_) => Sort::Model,
-            };
+            let sort = automaton.head().sort;
             println!(rt; "{label}: read as a {sort}")?;
         }
         Err(LoadError::Refused(fault)) => {

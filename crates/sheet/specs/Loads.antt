@@ -17,6 +17,11 @@ abbrev pub NotLoaded : Asked → List ℕ → LoadError → Type 0
 NotLoaded asked xs (Refused f) = FirstFault asked xs (block_refusal f)
 NotLoaded asked xs Memory = (c : Content) × Denotes asked xs c
 
+-- what the sheet denotes, or why it was not loaded
+abbrev pub ReadAs : {R : Type 0} → Asked → List ℕ → (R → Content → Type 0) → Result R LoadError → Type 0
+ReadAs asked xs Means (Ok x) = (c : Content) × Denotes asked xs c × Means x c
+ReadAs asked xs Means (Err e) = NotLoaded asked xs e
+
 -- the record is what the sheet denotes, or it is as it was
 abbrev pub Loaded : {R T : Type 0} → Asked → List ℕ → (R → Content → Type 0) → R → R → Result T LoadError → Type 0
 Loaded asked xs Means before after (Ok _) = (c : Content) × Denotes asked xs c × Means after c

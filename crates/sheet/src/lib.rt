@@ -13,3 +13,5 @@ mod numbers;
 pub mod rule;
 mod sets;
 mod table;
+#[cfg(test)]
+mod tests;

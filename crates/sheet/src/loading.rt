@@ -5,7 +5,7 @@ ghost use Rattle.inspect.specs.Format.{asked_for};
 ghost use Rattle.layout.specs.Writes.{Writes, ReadsBack};
 ghost use Rattle.layout.proofs.Valids.{test_valid};
 ghost use Rattle.sheet.specs.Automata.{fresh, with_formulas};
-ghost use Rattle.sheet.specs.Loads.{Loaded};
+ghost use Rattle.sheet.specs.Loads.{Loaded, ReadAs};
 
 use crate::cells::Cells;
 use crate::error::LoadError;
@@ -45,12 +45,19 @@ impl<C: Cells> Headed<C> {
         Ok(Headed { head, cells })
     }
 
+    // What a sheet denotes, for a reader that asks for this sort alone.
+    pub fn from_sheet(heap: Global, sheet: &[u8]) -> Result<Headed<C>, LoadError>
+        ensures { ReadAs (asked_for C.sort) sheet.now (λ x c. C.Holds x.head x.cells c) result }
+    {
+        let sheet = Faultless::of(Asked::from(C::sort()), sheet)?;
+        Ok(Headed::read(heap, sheet)?)
+    }
+
     // Becomes what the sheet denotes; where the sheet is refused, or memory is wanting, it stays as it was.
     pub fn load(&mut self, heap: Global, sheet: &[u8]) -> Result<(), LoadError>
         ensures { Loaded (asked_for C.sort) sheet.now (λ x c. C.Holds x.head x.cells c) self.old self.new result }
     {
-        let sheet = Faultless::of(Asked::from(C::sort()), sheet)?;
-        *self = Headed::read(heap, sheet)?;
+        *self = Headed::from_sheet(heap, sheet)?;
         Ok(())
     }
 

@@ -6,7 +6,7 @@ mod report;
 use anyhow::anyhow;
 use inspect::block::BLOCK;
 use report::{round_trip, show};
-use sheet::automaton::{Automaton, load};
+use sheet::automaton::load;
 use sheet::error::LoadError;
 use stream::read_sheet;
 
@@ -16,10 +16,7 @@ fn show_sheet(rt: &HostRuntime) -> anyhow::Result<()> {
     match load(rt.alloc(), sheet.as_slice()) {
         Ok(automaton) => {
             println!(rt; "blocks read, each with its check: {blocks}")?;
-            match &automaton {
-                Automaton::Rule(rule) => show(rt, rule)?,
-                Automaton::Model(model) => show(rt, model)?,
-            }
+            show(rt, &automaton)?;
             round_trip(rt, &automaton)
         }
         Err(LoadError::Refused(fault)) => {

@@ -5,7 +5,7 @@ use inspect::MOST_BLOCKS;
 use inspect::block::BLOCK;
 use inspect::head::Head;
 use layout::source::Source;
-use layout::write::WriteFault;
+use layout::write::write;
 use sheet::automaton::{Automaton, load};
 use std::alloc::{AllocError, Global};
 use words::infix::infix;
@@ -50,13 +50,6 @@ fn show_entries<S: Source>(rt: &HostRuntime, source: &S) -> anyhow::Result<()> {
 pub(crate) fn show<S: Source>(rt: &HostRuntime, source: &S) -> anyhow::Result<()> {
     show_head(rt, source.head())?;
     show_entries(rt, source)
-}
-
-fn write(automaton: &Automaton, out: &mut [u8]) -> Result<usize, WriteFault> {
-    match automaton {
-        Automaton::Rule(rule) => rule.write(out),
-        Automaton::Model(model) => model.write(out),
-    }
 }
 
 pub(crate) fn round_trip(rt: &HostRuntime, automaton: &Automaton) -> anyhow::Result<()> {
