@@ -14,6 +14,6 @@ pub(crate) fn conclude<G: Graph>(heap: Global, graph: &G) -> Result<Report, Allo
 {
     let tables = Tables::new(heap, graph.start(), PLACES)?;
     let mut search = Search::open(graph, tables, LIMIT).unwrap();
-    search.run(graph, u32::MAX).unwrap();
-    Ok(search.report::<G>())
+    search.run(u32::MAX).unwrap();
+    Ok(search.report())
 }

@@ -80,7 +80,7 @@ pub struct Block<'a> {
 
 impl<'a> Block<'a> {
     // Block i of those behind the head.
-    pub fn behind_head(i: usize, bytes: &'a [u8; BLOCK]) -> Block<'a>
+    pub(crate) fn behind_head(i: usize, bytes: &'a [u8; BLOCK]) -> Block<'a>
         requires { i < 255 }
         ensures number { result.number ≡ i + 1 }
         ensures bytes { result.bytes.now ≡ bytes.now }

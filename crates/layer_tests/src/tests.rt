@@ -24,10 +24,10 @@ fn ends<G: Graph>(
     let Ok(mut search) = Search::open(graph, tables, 100) else {
         return Err(Fail::new("open is refused"));
     };
-    let Ok(()) = search.run(graph, 100) else {
+    let Ok(()) = search.run(100) else {
         return Err(Fail::new("run is refused"));
     };
-    let report = search.report::<G>();
+    let report = search.report();
     assert_eq!(rt; report.standing, standing);
     assert!(rt; report.round == 1 && report.count == count);
     Ok(())

@@ -18,17 +18,17 @@ fn print_report(rt: &HostRuntime, name: &'static str, report: Report) -> anyhow:
 }
 
 // An inquiry opened in so many places and run.
-fn begun<G: Graph>(
+fn begun<'a, G: Graph>(
     heap: Global,
-    graph: &G,
+    graph: &'a G,
     places: usize,
     limit: u32,
-) -> anyhow::Result<Search<G::State>> {
+) -> anyhow::Result<Search<'a, G>> {
     let tables = Tables::new(heap, graph.start(), places)?;
     let Ok(mut search) = Search::open(graph, tables, limit) else {
         return Err(anyhow!("not opened"));
     };
-    let Ok(()) = search.run(graph, limit) else {
+    let Ok(()) = search.run(limit) else {
         return Err(anyhow!("not run"));
     };
     Ok(search)
@@ -42,19 +42,19 @@ pub fn search<G: Graph>(
     limit: u32,
 ) -> anyhow::Result<()> {
     let mut search = begun(rt.alloc(), graph, places, limit)?;
-    let report = search.report::<G>();
+    let report = search.report();
     print_report(rt, name, report)?;
     let Standing::Full = report.standing else {
         return Ok(());
     };
     let more = report.places.saturating_add(1);
-    let Ok(()) = search.widen(rt.alloc(), graph, more) else {
+    let Ok(()) = search.widen(rt.alloc(), more) else {
         return Err(anyhow!("not widened"));
     };
-    let Ok(()) = search.run(graph, limit) else {
+    let Ok(()) = search.run(limit) else {
         return Err(anyhow!("not run again"));
     };
-    print_report(rt, name, search.report::<G>())
+    print_report(rt, name, search.report())
 }
 
 fn print_asked(rt: &HostRuntime, answer: Answer) -> anyhow::Result<()> {
@@ -74,5 +74,5 @@ pub fn asked(rt: &HostRuntime, bytes: &[u8]) -> anyhow::Result<()> {
 // In as many places and under the limit that the bench has. It takes no rules yet.
 pub fn concluded<G: Graph>(rt: &HostRuntime, graph: &G) -> anyhow::Result<()> {
     let search = begun(rt.alloc(), graph, PLACES, LIMIT)?;
-    print_asked(rt, Answer::from(search.report::<G>()))
+    print_asked(rt, Answer::from(search.report()))
 }

@@ -24,18 +24,19 @@ pub trait Watch {
 }
 
 // Runs the inquiry until it does not run.
-fn exhaust<G: Graph, W: Watch>(graph: &G, search: &mut Search<G::State>, watch: &mut W) -> Report
-    requires { Placed (G.means graph.now) search.old }
+fn exhaust<G: Graph, W: Watch>(search: &mut Search<'_, G>, watch: &mut W) -> Report
+    requires { Placed (G.means search.old.graph.now) search.old }
     ensures is { result ≡ reported search.new.inquiry }
-    ensures stops { Exhausted (G.means graph.now) (reported search.old.inquiry) result (vec_items search.new.tables.outer) (vec_items search.new.tables.inner) }
+    ensures stops { Exhausted (G.means search.old.graph.now) (reported search.old.inquiry) result (vec_items search.new.tables.outer) (vec_items search.new.tables.inner) }
+    ensures graph { search.new.graph ≡ search.old.graph }
 {
     loop {
-        let report = search.report::<G>();
+        let report = search.report();
         let Standing::Running = report.standing else {
             return report;
         };
-        search.run(graph, BUDGET).unwrap();
-        watch.stopped(search.report::<G>());
+        search.run(BUDGET).unwrap();
+        watch.stopped(search.report());
     }
 }
 
@@ -47,7 +48,7 @@ pub fn pursue<G: Graph, W: Watch>(heap: Global, graph: &G, watch: &mut W) -> Res
     let tables = Tables::new(heap, graph.start(), PLACES)?;
     let mut search = Search::open(graph, tables, LIMIT)?;
     loop {
-        let report = exhaust(graph, &mut search, watch);
+        let report = exhaust(&mut search, watch);
         let Standing::Full = report.standing else {
             return Ok(report);
         };
@@ -55,7 +56,7 @@ pub fn pursue<G: Graph, W: Watch>(heap: Global, graph: &G, watch: &mut W) -> Res
             return Ok(report);
         }
         let places = (2 * report.places).min(MOST);
-        search.widen(heap, graph, places)?;
+        search.widen(heap, places)?;
         watch.widened(places);
     }
 }

@@ -36,11 +36,12 @@ pub(crate) fn read_table(heap: Global, sheet: Faultless) -> Result<Table, AllocE
         unreachable!()
     };
     for (i, bytes) in entries.iter().enumerate() {
+        let number = i as u8 + 1;
         fill_block(
             heap,
             &mut table,
             sheet.head.letters,
-            Block::behind_head(i, bytes),
+            Block { number, bytes },
         )?;
     }
     Ok(table)

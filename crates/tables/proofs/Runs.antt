@@ -1,6 +1,7 @@
 -- A run keeps the places and the limit, and a search that is on a course is placed. Assumes nothing.
 use Rattle.std.proofs.Common.{◌≡◌, ℕ, Some, None, Ok, Err, Option, Result, IfOk, sym, refl, ap, ◌∙◌, subst, ⊎_elim}
 use Rattle.graph.specs.Meaning.{Meaning}
+use Rattle.graph.specs.declared.Graph.{Ghosts}
 use Rattle.inquiry.specs.declared.refusal.Refusal.{Refusal}
 use Rattle.inquiry.specs.Calls.{Turned, Ran}
 use Rattle.inquiry.specs.Course.{Course}
@@ -36,5 +37,5 @@ run_keeps m budget p q r =
     subst (λ v. (v.places ≡ p.places) × (v.limit ≡ p.limit)) (sym r.is)
     (ran_keeps m (λ v. (v.places ≡ p.places) × (v.limit ≡ p.limit)) (λ v e h. ⊎_elim (λ f. (ap (λ x. x.places) f ∙ h.0, ap (λ x. x.limit) f ∙ h.1)) (λ c. (c.places ∙ h.0, c.limit ∙ h.1)) (swept_once m v)) budget p (refl, refl))
 
-pub placed : {S : Type 0} (m : Meaning S) (s : Search S) → Course m (place s) → Placed m s
+pub placed : {G S : Type 0} {g : Ghosts G S} (m : Meaning S) (s : Search G S g) → Course m (place s) → Placed m s
 placed m s course = record { long = record { outer = s.long; inner = s.tables.inner_long ∙ s.long; work = s.tables.work_long ∙ s.long }; course = course }

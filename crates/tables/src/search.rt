@@ -1,4 +1,4 @@
-// An inquiry in tables of its places: after open, no call on it is turned down for their lengths.
+// An inquiry over a graph, in tables of its places: after open, no call on it is turned down for their lengths.
 ghost use Rattle.std.specs.Prelude.{◌≡◌, vec_len};
 ghost use Rattle.inquiry.specs.Record.{reported};
 
@@ -14,20 +14,21 @@ use std::alloc::Global;
 // How many places a search has at first.
 pub const PLACES: usize = 512;
 
-// How many it may be moved to.
+// The most places that it may be moved to.
 pub const MOST: usize = 4096;
 
 // How many sweeps it may count.
 pub const LIMIT: u32 = 100_000;
 
 #[derive(Drop)]
-pub struct Search<S> {
+pub struct Search<'a, G: Graph> {
+    pub graph: &'a G,
     pub inquiry: Inquiry,
-    pub tables: Tables<S>,
+    pub tables: Tables<G::State>,
     pub ghost long: { vec_len tables.outer ≡ (reported inquiry).places },
 }
 
-impl<S: Copy> Search<S> {
+impl<'a, G: Graph> Search<'a, G> {
     ghost use Rattle.std.specs.Prelude.{IfOk};
     ghost use Rattle.inquiry.specs.Calls.{open_refusal, Turned, Ran};
     ghost use Rattle.inquiry.specs.Course.{Course, Promise, Onward};
@@ -35,13 +36,14 @@ impl<S: Copy> Search<S> {
     ghost use Rattle.tables.specs.Search.{place, halted, Placed, Widened};
 
     // Begins an inquiry in the tables.
-    pub fn open<G: Graph<State = S>>(
-        graph: &G,
-        tables: Tables<S>,
+    pub fn open(
+        graph: &'a G,
+        tables: Tables<G::State>,
         limit: u32,
-    ) -> Result<Search<S>, Refusal>
+    ) -> Result<Search<'a, G>, Refusal>
         ensures steps { Turned (open_refusal (vec_len tables.outer) (vec_len tables.outer) (vec_len tables.outer) limit (G.means graph.now).tops) result (Unit {0}) (λ s. place s ≡ opened (G.means graph.now) limit (vec_len tables.outer)) }
         ensures onward { IfOk result (λ s. Placed (G.means graph.now) s × Promise (G.means graph.now) (place s)) }
+        ensures graph { IfOk result (λ s. s.graph.now ≡ graph.now) }
     {
         let Tables {
             mut outer,
@@ -50,21 +52,26 @@ impl<S: Copy> Search<S> {
         } = tables;
         let inquiry = Inquiry::open(graph, &mut outer, &inner, &work, limit)?;
         let tables = Tables { outer, inner, work };
-        Ok(Search { inquiry, tables })
+        Ok(Search {
+            graph,
+            inquiry,
+            tables,
+        })
     }
 
     // Sweeps until so many are counted or the inquiry does not run.
-    pub fn run<G: Graph<State = S>>(&mut self, graph: &G, budget: u32) -> Result<(), Refusal>
-        ensures steps { Turned (halted self.old) result (self.new ≡ self.old) (λ _. Ran (G.means graph.now) budget (place self.old) (place self.new)) }
-        ensures onward { IfOk result (λ _. Onward (G.means graph.now) (place self.old) (place self.new)) }
+    pub fn run(&mut self, budget: u32) -> Result<(), Refusal>
+        ensures steps { Turned (halted self.old) result (self.new ≡ self.old) (λ _. Ran (G.means self.old.graph.now) budget (place self.old) (place self.new)) }
+        ensures onward { IfOk result (λ _. Onward (G.means self.old.graph.now) (place self.old) (place self.new)) }
+        ensures graph { self.new.graph ≡ self.old.graph }
     {
-        let Standing::Running = self.report::<G>().standing else {
+        let Standing::Running = self.report().standing else {
             return Err(Refusal::Stopped);
         };
         let tables = &mut self.tables;
         self.inquiry
             .run(
-                graph,
+                self.graph,
                 &mut tables.outer,
                 &mut tables.inner,
                 &mut tables.work,
@@ -75,16 +82,12 @@ impl<S: Copy> Search<S> {
     }
 
     // Moves a full inquiry to longer tables, where it runs on. No memory is asked for where it is turned down.
-    pub fn widen<G: Graph<State = S>>(
-        &mut self,
-        heap: Global,
-        graph: &G,
-        places: usize,
-    ) -> Result<(), Halt>
+    pub fn widen(&mut self, heap: Global, places: usize) -> Result<(), Halt>
         ensures steps { Widened places self.old self.new result }
-        ensures onward { IfOk result (λ _. Onward (G.means graph.now) (place self.old) (place self.new)) }
+        ensures onward { IfOk result (λ _. Onward (G.means self.old.graph.now) (place self.old) (place self.new)) }
+        ensures graph { self.new.graph ≡ self.old.graph }
     {
-        let report = self.report::<G>();
+        let report = self.report();
         let Standing::Full = report.standing else {
             return Err(Halt::Refused(Refusal::Room));
         };
@@ -95,7 +98,7 @@ impl<S: Copy> Search<S> {
             mut outer,
             mut inner,
             work,
-        } = Tables::new(heap, graph.start(), places)?;
+        } = Tables::new(heap, self.graph.start(), places)?;
         let tables = &self.tables;
         self.inquiry
             .widen::<G>(&tables.outer, &tables.inner, &mut outer, &mut inner, &work)
@@ -105,9 +108,9 @@ impl<S: Copy> Search<S> {
     }
 
     // What the record says.
-    pub fn report<G: Graph<State = S>>(&self) -> Report
+    pub fn report(&self) -> Report
         ensures is { result ≡ reported self.now.inquiry }
-        ensures onward { (g : G) → Course (G.means g) (place self.now) → Promise (G.means g) (place self.now) }
+        ensures onward { Course (G.means self.now.graph.now) (place self.now) → Promise (G.means self.now.graph.now) (place self.now) }
     {
         self.inquiry.report::<G>()
     }

@@ -14,13 +14,13 @@ fn goes_on_in_longer_tables(rt: HostRuntime) -> Result<(), Fail> {
     let Ok(mut search) = Search::open(&graph, tables, 100) else {
         return Err(Fail::new("open is refused"));
     };
-    assert_eq!(rt; search.run(&graph, 100), Ok(()));
-    let report = search.report::<Chain>();
+    assert_eq!(rt; search.run(100), Ok(()));
+    let report = search.report();
     assert_eq!(rt; report.standing, Standing::Full);
     assert!(rt; report.places == 3 && report.count == 3);
-    assert_eq!(rt; search.widen(rt.alloc(), &graph, 5), Ok(()));
-    assert_eq!(rt; search.run(&graph, 100), Ok(()));
-    let report = search.report::<Chain>();
+    assert_eq!(rt; search.widen(rt.alloc(), 5), Ok(()));
+    assert_eq!(rt; search.run(100), Ok(()));
+    let report = search.report();
     assert_eq!(rt; report.standing, Standing::Possible);
     assert!(rt; report.places == 5 && report.count == 10 && report.outer == 4);
     assert!(rt; &search.tables.outer[0..4] == [0, 1, 2, 3].as_slice());
@@ -34,22 +34,22 @@ fn turns_down_where_it_stands(rt: HostRuntime) -> Result<(), Fail> {
     let Ok(mut search) = Search::open(&graph, tables, 100) else {
         return Err(Fail::new("open is refused"));
     };
-    let opened = search.report::<Chain>();
+    let opened = search.report();
     assert_eq!(rt;
-        search.widen(rt.alloc(), &graph, 5),
+        search.widen(rt.alloc(), 5),
         Err(Halt::Refused(Refusal::Room))
     );
-    assert_eq!(rt; search.report::<Chain>(), opened);
-    assert_eq!(rt; search.run(&graph, 100), Ok(()));
-    let full = search.report::<Chain>();
-    assert_eq!(rt; search.run(&graph, 100), Err(Refusal::Stopped));
+    assert_eq!(rt; search.report(), opened);
+    assert_eq!(rt; search.run(100), Ok(()));
+    let full = search.report();
+    assert_eq!(rt; search.run(100), Err(Refusal::Stopped));
     for places in [3, 4097] {
         assert_eq!(rt;
-            search.widen(rt.alloc(), &graph, places),
+            search.widen(rt.alloc(), places),
             Err(Halt::Refused(Refusal::Wider))
         );
     }
-    assert_eq!(rt; search.report::<Chain>(), full);
+    assert_eq!(rt; search.report(), full);
     Ok(())
 }
 

@@ -8,7 +8,8 @@ abbrev pub invariant-loop-report : goal.invariant-loop-report
 invariant-loop-report g l = record {
   places_are : (place l.search).places ≡ (place l.initial.search).places;
   limit_is : (place l.search).limit ≡ (place l.initial.search).limit;
-  placed : Placed (g.G.Graph.means l.graph) l.search;
+  placed : Placed (g.G.Graph.means l.initial.search.graph.now) l.search;
+  graph_is : l.search.graph ≡ l.initial.search.graph;
 }
 
 abbrev pub decreases-loop-report : goal.decreases-loop-report

@@ -8,6 +8,7 @@ use Rattle.pursuit.proofs.pursue.Given as goal
 abbrev pub invariant-loop-search : goal.invariant-loop-search
 invariant-loop-search g l = record {
   placed : Placed (g.G.Graph.means l.graph) l.search;
+  graph_is : l.search.graph.now ≡ l.graph;
   limit_is : (place l.search).limit ≡ 100000;
   doubled : Doubled (place l.search).places;
   opens : open_refusal 512 512 512 100000 (g.G.Graph.means l.graph).tops ≡ None;

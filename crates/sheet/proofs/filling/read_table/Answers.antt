@@ -31,18 +31,21 @@ loop-i-init c =
       refl,
     )
 
-pub behind_head-requires : goal.behind_head-requires
-behind_head-requires c = omega (arith, few (goal.at.behind_head-requires c).In-Some)
+pub overflow_cast-i : goal.overflow_cast-i
+overflow_cast-i c = omega (arith, few (goal.at.overflow_cast-i c).In-Some)
+
+pub overflow_add-i : goal.overflow_add-i
+overflow_add-i c = omega (arith, few (goal.at.overflow_add-i c).In-Some)
 
 pub fill_block-requires : goal.fill_block-requires
 fill_block-requires c =
-    rw (c.behind_head.ensures.number, c.behind_head.ensures.bytes) (each_entries_fit c.in-Some.entries.now c.loop-i.i [] c.loop-i-test.true c.loop-i.invariant.0).0
+    (each_entries_fit c.in-Some.entries.now c.loop-i.i [] c.loop-i-test.true c.loop-i.invariant.0).0
 
 pub loop-i-preserved : goal.loop-i-preserved
 loop-i-preserved c =
     let bs = c.in-Some.entries.now in (
       (each_entries_fit bs c.loop-i.i [] c.loop-i-test.true c.loop-i.invariant.0).1,
-      c.loop-i.invariant.1 ∙ ap (λ es. laid c.args.sheet.head.letters (formulas c.loop-i.table) (map entry_of es)) (each_entries_on bs c.loop-i.i [] c.loop-i-test.true) ∙ (rw (c.behind_head.ensures.number, c.behind_head.ensures.bytes) at c.in_ok-fill_block.ensures _),
+      c.loop-i.invariant.1 ∙ ap (λ es. laid c.args.sheet.head.letters (formulas c.loop-i.table) (map entry_of es)) (each_entries_on bs c.loop-i.i [] c.loop-i-test.true) ∙ c.in_ok-fill_block.ensures _,
     )
 
 pub returns : goal.returns

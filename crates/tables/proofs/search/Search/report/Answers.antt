@@ -5,7 +5,8 @@ use Rattle.inquiry.specs.Record.{position}
 use Rattle.tables.proofs.search.Search.report.Goals as goal
 
 pub returns-clause-onward : goal.returns-clause-onward
-returns-clause-onward g c = λ h course.
+returns-clause-onward g c = λ course.
+    let h = c.args.self.now.graph.now in
     let m = g.G.Graph.means h in
     let outer = vec_items c.args.self.now.tables.outer in
     let inner = vec_items c.args.self.now.tables.inner in

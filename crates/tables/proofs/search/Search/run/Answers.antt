@@ -14,5 +14,5 @@ invariant_of-self g c =
     let p = position (reported i) a b in
     let q = position (reported j) c.run.new.outer c.run.new.inner in
     let kept : q.places ≡ p.places =
-    either_way (run_refusal (reported i) (length a) (length b) (length c.deref_mut-3.result.now)) c.run.result _ _ (λ same. ap (λ v. (reported v).places) same.0) (λ _ ran. (run_keeps (g.G.Graph.means c.args.graph.now) c.args.budget p q ran).0) c.run.ensures.steps in
+    either_way (run_refusal (reported i) (length a) (length b) (length c.deref_mut-3.result.now)) c.run.result _ _ (λ same. ap (λ v. (reported v).places) same.0) (λ _ ran. (run_keeps (g.G.Graph.means c.args.self.now.graph.now) c.args.budget p q ran).0) c.run.ensures.steps in
     record { long = c.args.self.now.long ∙ sym kept }
