@@ -31,11 +31,11 @@ loop-i-init c =
       refl,
     )
 
-pub overflow_cast-i : goal.overflow_cast-i
-overflow_cast-i c = omega (arith, few (goal.at.overflow_cast-i c).In-Some)
+pub overflow_cast-number : goal.overflow_cast-number
+overflow_cast-number c = omega (arith, few (goal.at.overflow_cast-number c).In-Some)
 
-pub overflow_add-i : goal.overflow_add-i
-overflow_add-i c = omega (arith, few (goal.at.overflow_add-i c).In-Some)
+pub overflow_add-number : goal.overflow_add-number
+overflow_add-number c = omega (arith, few (goal.at.overflow_add-number c).In-Some)
 
 pub fill_block-requires : goal.fill_block-requires
 fill_block-requires c =
