@@ -1,5 +1,5 @@
 // Sheets made byte by byte, so that each can have just the fault that is wanted.
-use inspect::block::{BLOCK, Kind, block_at, check_sum};
+use inspect::block::{BLOCK, CHECK, Kind, block_at, check_sum};
 use inspect::fault::Place;
 use inspect::head::Head;
 use std::alloc::{AllocError, Global};
@@ -40,7 +40,7 @@ impl Draft {
         self.bytes.extend_from_slice(&[0; BLOCK])?;
         self.put(at(block, 0), &[Kind::Entries.into(), block]);
         self.put(at(block, 2), body);
-        if body.len() < 508 {
+        if body.len() < CHECK - 2 {
             self.put(at(block, 2 + body.len() as u16), &[0xff]);
         }
         self.seal(block);

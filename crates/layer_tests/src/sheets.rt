@@ -4,11 +4,7 @@ use std::alloc::Global;
 use std::test::Fail;
 
 fn load(heap: Global, sheet: &[u8]) -> Result<Model, Fail> {
-    let mut model = Model::fresh(heap)?;
-    model
-        .load(heap, sheet)
-        .map_err(|_| Fail::new("the sheet is refused"))?;
-    Ok(model)
+    Ok(Model::from_sheet(heap, sheet)?)
 }
 
 // From 0 to 1 and back under one letter; 1 accepts.

@@ -1,7 +1,6 @@
 // Models that are possible, impossible and spent.
 use crate::search::{asked, search};
 use crate::sheets::{model, sheet};
-use anyhow::anyhow;
 use inspect::head::Head;
 use model_graph::ModelGraph;
 use sheet::model::Model;
@@ -14,10 +13,7 @@ fn try_model(
     limit: u32,
 ) -> anyhow::Result<()> {
     let bytes = sheet(head, entries);
-    let mut model = Model::fresh(rt.alloc())?;
-    let Ok(()) = model.load(rt.alloc(), &bytes) else {
-        return Err(anyhow!("not loaded"));
-    };
+    let model = Model::from_sheet(rt.alloc(), &bytes)?;
     search(rt, name, &ModelGraph { model }, 4, limit)?;
     asked(rt, &bytes)
 }

@@ -1,7 +1,6 @@
 // The rule of two locations, its slots and its inquiries, and rules that are all or nothing.
 use crate::search::{concluded, search};
 use crate::sheets::{rule, sheet};
-use anyhow::anyhow;
 use formula::set::contains;
 use graph::Graph;
 use inspect::head::Head;
@@ -15,10 +14,7 @@ use std::fmt;
 const EXAMPLE: [u8; 18] = [0, 0, 3, 0, 1, 0x42, 0, 1, 1, 1, 1, 0, 1, 1, 1, 1, 1, 0x41];
 
 fn load(heap: Global, bytes: &[u8]) -> anyhow::Result<RuleGraph> {
-    let mut rule = Rule::fresh(heap)?;
-    let Ok(()) = rule.load(heap, bytes) else {
-        return Err(anyhow!("not loaded"));
-    };
+    let rule = Rule::from_sheet(heap, bytes)?;
     Ok(RuleGraph { rule })
 }
 

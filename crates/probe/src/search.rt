@@ -1,10 +1,8 @@
 // An inquiry in a few places, moved to one place more where it is full.
-use anyhow::anyhow;
 use bench::{Answer, ask};
 use graph::Graph;
 use inquiry::report::Report;
 use inquiry::standing::Standing;
-use sheet::error::LoadError;
 use std::alloc::Global;
 use tables::Tables;
 use tables::search::{LIMIT, PLACES, Search};
@@ -25,12 +23,8 @@ fn begun<'a, G: Graph>(
     limit: u32,
 ) -> anyhow::Result<Search<'a, G>> {
     let tables = Tables::new(heap, graph.start(), places)?;
-    let Ok(mut search) = Search::open(graph, tables, limit) else {
-        return Err(anyhow!("not opened"));
-    };
-    let Ok(()) = search.run(limit) else {
-        return Err(anyhow!("not run"));
-    };
+    let mut search = Search::open(graph, tables, limit)?;
+    search.run(limit)?;
     Ok(search)
 }
 
@@ -48,12 +42,8 @@ pub fn search<G: Graph>(
         return Ok(());
     };
     let more = report.places.saturating_add(1);
-    let Ok(()) = search.widen(rt.alloc(), more) else {
-        return Err(anyhow!("not widened"));
-    };
-    let Ok(()) = search.run(limit) else {
-        return Err(anyhow!("not run again"));
-    };
+    search.widen(rt.alloc(), more)?;
+    search.run(limit)?;
     print_report(rt, name, search.report())
 }
 
@@ -64,14 +54,10 @@ fn print_asked(rt: &HostRuntime, answer: Answer) -> anyhow::Result<()> {
 
 // As the bench asks a model.
 pub fn asked(rt: &HostRuntime, bytes: &[u8]) -> anyhow::Result<()> {
-    match ask(rt.alloc(), bytes) {
-        Ok(answer) => print_asked(rt, answer),
-        Err(LoadError::Refused(_)) => Err(anyhow!("refused")),
-        Err(LoadError::Memory) => Err(anyhow!("no memory")),
-    }
+    print_asked(rt, ask(rt.alloc(), bytes)?)
 }
 
-// In as many places and under the limit that the bench has. It takes no rules yet.
+// In as many places and under the limit that the bench has. The bench takes no rules.
 pub fn concluded<G: Graph>(rt: &HostRuntime, graph: &G) -> anyhow::Result<()> {
     let search = begun(rt.alloc(), graph, PLACES, LIMIT)?;
     print_asked(rt, Answer::from(search.report()))

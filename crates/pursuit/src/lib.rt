@@ -14,12 +14,15 @@ use tables::Tables;
 use tables::halt::Halt;
 use tables::search::{LIMIT, MOST, PLACES, Search};
 
+// How many sweeps are made before the watch is told.
 const BUDGET: u32 = 1000;
 
 // Is told what happens, as it happens.
 pub trait Watch {
+    // After every run, also where the inquiry runs on.
     fn stopped(&mut self, report: Report);
 
+    // After the tables were made longer.
     fn widened(&mut self, places: usize);
 }
 

@@ -4,9 +4,11 @@ ghost use Rattle.tables.specs.declared.halt.Halt.TheVariants.{Refused as Refused
 
 use inquiry::refusal::Refusal;
 use std::alloc::AllocError;
+use std::error::Error;
+use std::fmt;
 
-// An enum of its own beside the reasons why a sheet is not loaded: one type for any refusal would have two overlapping
-// `From`s, and each `?` would need a `map_err`.
+// An enum of its own beside the reasons why a sheet is not loaded: one type for both would have to stand in a crate below
+// inspect and inquiry, which know nothing of each other, for two cases.
 #[derive(Clone, Copy, PartialEq, Eq, Debug)]
 pub enum Halt {
     // the inquiry turned the call down
@@ -31,3 +33,14 @@ impl From<AllocError> for Halt {
         Halt::Memory
     }
 }
+
+impl fmt::Display for Halt {
+    fn fmt<W: fmt::Write>(&self, f: &mut fmt::Formatter<W>) -> fmt::Result {
+        match self {
+            Halt::Refused(refusal) => write!(f, "{refusal}"),
+            Halt::Memory => f.write_str("no memory for the tables"),
+        }
+    }
+}
+
+impl Error for Halt {}

@@ -5,7 +5,7 @@ ghost use Rattle.inquiry.specs.Record.{reported};
 use crate::Tables;
 use crate::halt::Halt;
 use graph::Graph;
-use inquiry::record::Inquiry;
+use inquiry::record::{Inquiry, MOST_PLACES};
 use inquiry::refusal::Refusal;
 use inquiry::report::Report;
 use inquiry::standing::Standing;
@@ -15,7 +15,7 @@ use std::alloc::Global;
 pub const PLACES: usize = 512;
 
 // The most places that it may be moved to.
-pub const MOST: usize = 4096;
+pub const MOST: usize = MOST_PLACES;
 
 // How many sweeps it may count.
 pub const LIMIT: u32 = 100_000;

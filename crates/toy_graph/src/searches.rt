@@ -1,4 +1,4 @@
-// A search over the chain: it goes on in longer tables, and is turned down by number and as it was.
+// A search over the chain: it goes on in longer tables, and stays as it was where it is turned down.
 use crate::Chain;
 use inquiry::refusal::Refusal;
 use inquiry::standing::Standing;

@@ -1,5 +1,5 @@
 -- A run goes on with the course, and counts a sweep or stops.
-use Rattle.std.proofs.Common.{◌≡◌, None, IfOk, sym, ap, ◌∙◌, subst}
+use Rattle.std.proofs.Common.{◌≡◌, IfOk, sym, ap, ◌∙◌, subst}
 use Rattle.inquiry.specs.declared.standing.Standing.TheVariants.{Running}
 use Rattle.inquiry.specs.Course.{Onward}
 use Rattle.inquiry.specs.Standing.{going}
