@@ -28,6 +28,7 @@ fn begun<'a, G: Graph>(
     Ok(search)
 }
 
+// Name, places and limit are three parameters: a struct would name each of them again at every call.
 pub fn search<G: Graph>(
     rt: &HostRuntime,
     name: &'static str,

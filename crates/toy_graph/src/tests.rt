@@ -169,10 +169,10 @@ fn ended(rt: &impl Abort, stuck: bool, limit: u32, budget: u32) -> Result<Report
     for _ in 0..12 {
         match t.report().standing {
             Standing::Running => t.run([5; 3], budget)?,
-            _ => refused_run(rt, &mut t, [5; 3], budget, Refusal::Stopped),
+            _ => refused(rt, &mut t, Refusal::Stopped, |t| t.run([5; 3], budget)),
         }
     }
-    refused_run(rt, &mut t, [5; 3], 0, Refusal::Stopped);
+    refused(rt, &mut t, Refusal::Stopped, |t| t.run([5; 3], 0));
     Ok(t.report())
 }
 
@@ -236,23 +236,17 @@ fn ends(rt: HostRuntime) -> Result<(), Fail> {
 }
 
 // Also the record and the tables of a trial that is turned down are as before.
-fn refused_run(rt: &impl Abort, t: &mut Trial, lent: [usize; 3], budget: u32, expected: Refusal) {
-    let report = t.report();
-    let before = t.tables;
-    assert_eq!(rt; t.run(lent, budget), Err(expected));
-    assert!(rt; t.report() == report && t.tables == before);
-}
-
-fn refused_widen(
+fn refused<F: FnOnce(&mut Trial) -> Result<(), Refusal>>(
     rt: &impl Abort,
     t: &mut Trial,
-    old: [usize; 2],
-    lent: [usize; 3],
     expected: Refusal,
-) {
+    call: F,
+)
+    requires { F.IsAlwaysCallable call }
+{
     let report = t.report();
     let before = t.tables;
-    assert_eq!(rt; t.widen(rt, old, lent), Err(expected));
+    assert_eq!(rt; call(t), Err(expected));
     assert!(rt; t.report() == report && t.tables == before);
 }
 
@@ -274,18 +268,33 @@ fn turns_down(rt: HostRuntime) -> Result<(), Fail> {
     }
     let mut t = Trial::open(&rt, false, [3; 3], 9)?;
     for lent in [[4, 3, 3], [3, 2, 3], [3, 3, 4]] {
-        refused_run(&rt, &mut t, lent, 0, Refusal::Places);
+        refused(&rt, &mut t, Refusal::Places, |t| t.run(lent, 0));
     }
-    refused_widen(&rt, &mut t, [2, 3], [9; 3], Refusal::Places);
-    refused_widen(&rt, &mut t, [3, 4], [9; 3], Refusal::Places);
-    refused_widen(&rt, &mut t, [3; 2], [1; 3], Refusal::Room);
+    refused(
+        &rt,
+        &mut t,
+        Refusal::Places,
+        |t| t.widen(&rt, [2, 3], [9; 3]),
+    );
+    refused(
+        &rt,
+        &mut t,
+        Refusal::Places,
+        |t| t.widen(&rt, [3, 4], [9; 3]),
+    );
+    refused(&rt, &mut t, Refusal::Room, |t| t.widen(&rt, [3; 2], [1; 3]));
     // now full
     t.run([3; 3], 9)?;
-    refused_run(&rt, &mut t, [3, 3, 2], 0, Refusal::Places);
-    refused_run(&rt, &mut t, [3; 3], 0, Refusal::Stopped);
-    refused_widen(&rt, &mut t, [4, 3], [1; 3], Refusal::Places);
+    refused(&rt, &mut t, Refusal::Places, |t| t.run([3, 3, 2], 0));
+    refused(&rt, &mut t, Refusal::Stopped, |t| t.run([3; 3], 0));
+    refused(
+        &rt,
+        &mut t,
+        Refusal::Places,
+        |t| t.widen(&rt, [4, 3], [1; 3]),
+    );
     for lent in [[3; 3], [5, 4, 5], [5, 5, 6], [4097; 3]] {
-        refused_widen(&rt, &mut t, [3; 2], lent, Refusal::Wider);
+        refused(&rt, &mut t, Refusal::Wider, |t| t.widen(&rt, [3; 2], lent));
     }
     Ok(())
 }
