@@ -8,7 +8,6 @@ use Rattle.inspect.specs.Denotes.{Content, Denotes}
 use Rattle.model_graph.specs.ModelGraph.{content_means}
 use Rattle.sheet.specs.declared.error.LoadError.{LoadError}
 use Rattle.sheet.specs.Loads.{NotLoaded}
-use Rattle.sheet.specs.Models.{Model, IsModel}
 use Rattle.bench.specs.declared.Answer.{Answer}
 use Rattle.bench.specs.Concludes.{Concludes}
 
@@ -24,7 +23,3 @@ answer_words a = standing_name a.standing ++ codes " " ++ decimal a.round ++ cod
 abbrev pub Answered : List ℕ → Result Answer LoadError → Type 0
 Answered xs (Ok a) = (c : Content) × Denotes asked.Model xs c × Concludes (content_means c) a.standing a.round a.count
 Answered xs (Err e) = NotLoaded asked.Model xs e
-
-abbrev pub Read : List ℕ → Result Model LoadError → Type 0
-Read xs (Ok m) = (c : Content) × Denotes asked.Model xs c × IsModel m c
-Read xs (Err e) = NotLoaded asked.Model xs e

@@ -4,13 +4,11 @@
 mod conclude;
 
 ghost use Rattle.std.specs.Prelude.{◌≡◌, Some};
-ghost use Rattle.bench.specs.Answers.{answer_of, answer_words, Answered, Read};
+ghost use Rattle.bench.specs.Answers.{answer_of, answer_words, Answered};
 
 use conclude::conclude;
 use inquiry::report::Report;
 use inquiry::standing::Standing;
-use inspect::head::Asked;
-use inspect::inspect;
 use model_graph::ModelGraph;
 use sheet::error::LoadError;
 use sheet::model::Model;
@@ -45,22 +43,11 @@ impl fmt::Display for Answer {
     }
 }
 
-// The model that the sheet denotes.
-fn read_model(heap: Global, sheet: &[u8]) -> Result<Model, LoadError>
-    ensures { Read sheet.now result }
-{
-    // a fault goes before want of memory
-    inspect(Asked::Model, sheet)?;
-    let mut model = Model::fresh(heap)?;
-    model.load(heap, sheet)?;
-    Ok(model)
-}
-
 // Whether the model that the sheet denotes has an accepting loop, by an inquiry run to its end.
 pub fn ask(heap: Global, sheet: &[u8]) -> Result<Answer, LoadError>
     ensures { Answered sheet.now result }
 {
-    let model = read_model(heap, sheet)?;
+    let model = Model::from_sheet(heap, sheet)?;
     let report = conclude(heap, &ModelGraph { model })?;
     Ok(Answer::from(report))
 }
