@@ -15,7 +15,7 @@ mod heading;
 pub mod item;
 pub mod items;
 pub mod placed;
-mod words;
+pub mod words;
 
 use blocks::Blocks;
 use entry::check_entries;
