@@ -1,11 +1,11 @@
 -- Membership in masks: of each operation on bits, and that it decides a mask. Assumes nothing.
-use Rattle.std.proofs.Common.{◌≡◌, ℕ, zero, suc, ◌+◌, ◌-◌, ◌/◌, ◌%◌, ◌^◌, ◌<◌, ◌≤◌, true, false, not, ◌&&◌, ◌||◌, eqb, ltb, sym, refl, ap, ◌∙◌, ap₂, mod-eq_of_lt, pow-suc, div-one, add-one, one-add, arith, pow_mono}
+use Rattle.std.proofs.Common.{◌≡◌, ℕ, zero, suc, ◌+◌, ◌-◌, ◌*◌, ◌/◌, ◌%◌, ◌^◌, ◌<◌, ◌≤◌, true, false, not, ◌&&◌, ◌||◌, eqb, ltb, sym, refl, ap, ◌∙◌, ap₂, mod-eq_of_lt, pow-suc, div-one, add-one, one-add, arith, pow_mono}
 use mathlib.Core.Bool.{or_assoc as either_assoc}
 use native.Mathlib.Nat.{zero-div, mod-one, div-eq_of_lt, mul-mod_left}
 use lib.Bits.{bit_and, bit_or, or_zero_r}
 use lib.Dec.{eqb-zero-suc, eqb-suc-zero, eqb-suc-suc, leb-suc-zero, leb-suc-suc, leb-zero}
 use lib.Pow.{mod-mod-pow, field}
-use Rattle.std.proofs.lemmas.Nat.{and_shr, or_shr, and_mod, or_mod, pow-add, shr-shr}
+use Rattle.std.proofs.lemmas.Nat.{and_shr, or_shr, and_mod, or_mod, and_mask, or_comm, or_lt, one_shl, pow-add, pow_below, shr-shr}
 use Rattle.std.proofs.lemmas.Bool.Decides.{nat_tests}
 use Rattle.formula.specs.Sets.{has}
 
@@ -103,6 +103,17 @@ same_sets a b same =
 
 pub or_assoc : (a b c : ℕ) → bit_or a (bit_or b c) ≡ bit_or (bit_or a b) c
 or_assoc a b c = same_sets _ _ (λ i. simp (has_or, either_assoc))
+
+pub bit_test : (m i : ℕ) → eqb (bit_and (m / 2 ^ i) 1) 1 ≡ has m i
+bit_test m i = ap (λ x. eqb x 1) (and_mask (m / 2 ^ i) 1)
+
+pub has_insert : (m l i : ℕ) → l < 32 → has (bit_or m ((1 * 2 ^ l) % 2 ^ 32)) i ≡ (eqb i l || has m i)
+has_insert m l i h =
+    ap (λ x. has x i) (ap (bit_or m) (one_shl l 32 h) ∙ or_comm m (2 ^ l)) ∙ has_or (2 ^ l) m i
+    ∙ ap (λ b. b || has m i) (has_pow l i)
+
+pub insert_below : (n m l : ℕ) → n ≤ 32 → l < n → m < 2 ^ n → bit_or m ((1 * 2 ^ l) % 2 ^ 32) < 2 ^ n
+insert_below n m l w h k = rw (one_shl l 32 (omega arith)) (or_lt n m (2 ^ l) k (pow_below l n h))
 
 -- a location past the width has no bit
 pub insert_past : (n m l : ℕ) → m < 2 ^ n → n ≤ l → bit_or m (2 ^ l) % 2 ^ n ≡ m

@@ -1,13 +1,13 @@
 -- A set and its rising spelling: each gives the other back, and no formula that names the set is shorter. Assumes nothing.
-use Rattle.std.proofs.Common.{◌≡◌, ℕ, zero, suc, pred, ◌+◌, ◌-◌, ◌*◌, ◌/◌, ◌%◌, ◌^◌, ◌<◌, ◌≤◌, Bool, true, false, cond, ◌||◌, eqb, ltb, List, [], ◌∷◌, ◌++◌, length, get_or, filter, sym, refl, ap, ◌∙◌, ap₂, append-nil, zero-le, mod-eq_of_lt, one-mul, zero-add, add-one, one-add, arith}
+use Rattle.std.proofs.Common.{◌≡◌, ℕ, zero, suc, pred, ◌+◌, ◌-◌, ◌*◌, ◌/◌, ◌%◌, ◌^◌, ◌<◌, ◌≤◌, Bool, true, false, cond, ◌||◌, eqb, ltb, List, [], ◌∷◌, ◌++◌, length, get_or, Some, filter, sym, refl, ap, ◌∙◌, ap₂, ⊎_elim, append-nil, zero-le, mod-eq_of_lt, one-mul, zero-add, add-one, one-add, arith}
 use native.Mathlib.Nat.{mod-one, mod-mod}
 use lib.Bits.{bit_or, or_shifted_r, or_zero_r}
-use Rattle.std.specs.List.{range_with_len, AllByRecursion}
+use Rattle.std.specs.List.{range_with_len, AllByRecursion, slice_get}
 use Rattle.std.proofs.lemmas.Nat.{or_lt, or_mod, pow_pos, pow_below, mod-pow-add, mod_below}
 use Rattle.std.proofs.lemmas.List.FromFn.{length-range_with_len, get_or-range_with_len, filter_of_map_range_with_len_more}
 use Rattle.std.proofs.ByRecursion.{All-from_get_or, all_kept_by}
-use Rattle.std.proofs.lemmas.List.{length-append, map-id}
-use Rattle.std.proofs.lemmas.Bool.{and_parts, eqb-true}
+use Rattle.std.proofs.lemmas.List.{length-append, nil_from_length, map-id}
+use Rattle.std.proofs.lemmas.Bool.{and_parts, cases_lt, eqb-true}
 use Rattle.std.proofs.lemmas.Bool.Decides.{nat_tests}
 use Rattle.formula.specs.declared.token.Token.{Token}
 use Rattle.formula.specs.declared.token.Token.TheVariants.{Location, True, False, And, Or}
@@ -32,6 +32,9 @@ named_below n (False ∷ ts) h = named_below n ts h.1
 named_below n (And ∷ ts) h = named_below n ts h.1
 named_below n (Or ∷ ts) h = named_below n ts h.1
 
+pub named_push : (ts : List Token) (l : ℕ) → named (ts ++ Location l ∷ []) ≡ bit_or (named ts) (2 ^ l)
+named_push ts l = named_append ts (Location l ∷ []) ∙ ap (bit_or (named ts)) (or_zero_r (2 ^ l))
+
 -- one token more, in a mask of n bits
 pub named_mod_push : (n : ℕ) (ts : List Token) (t : Token) → bit_or (named ts % 2 ^ n) (named (t ∷ [])) % 2 ^ n ≡ named (ts ++ t ∷ []) % 2 ^ n
 named_mod_push n ts t =
@@ -50,6 +53,10 @@ listed_push (x ∷ ls) l = ap (λ ts. Location x ∷ ts) (ors_push ls)
     ors_push : (ls : List ℕ) → ors (ls ++ l ∷ []) ≡ ors ls ++ Location l ∷ Or ∷ []
     ors_push [] = refl
     ors_push (y ∷ ls) = ap (λ ts. Location y ∷ Or ∷ ts) (ors_push ls)
+
+pub listed_more : (ls : List ℕ) (l : ℕ) → 0 < length ls → listed (ls ++ l ∷ []) ≡ listed ls ++ Location l ∷ Or ∷ []
+listed_more [] l h = absurd (omega arith)
+listed_more (x ∷ ls) l h = listed_push (x ∷ ls) l
 
 named_listed_push : (ls : List ℕ) (l : ℕ) → named (listed (ls ++ l ∷ [])) ≡ bit_or (named (listed ls)) (2 ^ l)
 named_listed_push [] l = or_zero_r (2 ^ l)
@@ -112,6 +119,9 @@ members_zero n = go (range_with_len 0 n)
     go [] = refl
     go (l ∷ ls) = ap (λ b. cond b (l ∷ filter (has 0) ls) (filter (has 0) ls)) (has_zero l) ∙ go ls
 
+pub spelling_empty : (n mask : ℕ) → mask < 2 ^ n → length (members n mask) ≡ 0 → mask ≡ 0
+spelling_empty n mask h e = sym (named_spelling n mask h) ∙ ap (λ ls. named (listed ls)) (nil_from_length (members n mask) e)
+
 length_listed : (ls : List ℕ) → length (listed ls) ≡ length ls + (length ls - 1)
 length_listed [] = refl
 length_listed (l ∷ ls) = omega (arith, go ls)
@@ -142,6 +152,28 @@ members_few (suc n) mask = rw (length_members n mask) (go _ (has mask n) (member
     go : (m : ℕ) (b : Bool) → m ≤ n → m + cond b 1 0 ≤ suc n
     go m true h = omega arith
     go m false h = omega arith
+
+-- a member stands behind those below it
+pub member_at : (n mask l : ℕ) → l < n → has mask l ≡ true → slice_get (members n mask) (length (members l mask)) ≡ Some l
+member_at zero mask l h e = absurd (omega arith)
+member_at (suc n) mask l h e =
+    ap (λ k. slice_get (members k mask) (length (members l mask))) (sym (add-one n))
+    ∙ ap (λ ls. slice_get ls (length (members l mask))) (members_more n mask)
+    ∙ ⊎_elim (λ k. front (members n mask) _ _ (member_at n mask l k e)) here (cases_lt l n)
+  where
+    front : (xs ys : List ℕ) (k : ℕ) → slice_get xs k ≡ Some l → slice_get (xs ++ ys) k ≡ Some l
+    front [] ys k h = absurd (let z : ◌≡◌ {A = ℕ} 0 1 = cc in omega arith)
+    front (x ∷ xs) ys zero h = h
+    front (x ∷ xs) ys (suc k) h = front xs ys k h
+
+    last : (xs : List ℕ) → slice_get (xs ++ l ∷ []) (length xs) ≡ Some l
+    last [] = refl
+    last (x ∷ xs) = last xs
+
+    here : n ≤ l → slice_get (members n mask ++ cond (has mask n) (n ∷ []) []) (length (members l mask)) ≡ Some l
+    here k =
+        let same : n ≡ l = omega arith in
+        rw same (ap (λ b. slice_get (members l mask ++ cond b (l ∷ []) []) (length (members l mask))) e ∙ last (members l mask))
 
 -- a location that is put in adds at most itself
 members_grow : (n l mask : ℕ) → length (members n (bit_or (2 ^ l) mask)) ≤ length (members n mask) + cond (ltb l n) 1 0

@@ -47,14 +47,28 @@ fn joined(set: u32, token: Token) -> u32
 fn count(locations: u8, set: u32) -> usize
     ensures { result ≡ length (members locations set) }
 {
-    (0..locations).filter(|l| contains(set, *l)).count()
+    // A filter that is counted takes up to half as much time again, here and in `member`, and a writer asks for each token.
+    let mut count = 0;
+    for l in 0..locations {
+        count += usize::from(contains(set, l));
+    }
+    count
 }
 
 // Member j of the set, from 0 and rising, among the first `locations` locations, if there are so many.
 fn member(locations: u8, set: u32, j: usize) -> Option<u8>
     ensures { result ≡ slice_get (members locations set) j }
 {
-    (0..locations).filter(|l| contains(set, *l)).nth(j)
+    let mut before = 0;
+    for l in 0..locations {
+        if contains(set, l) {
+            if before == j {
+                return Some(l);
+            }
+            before += 1;
+        }
+    }
+    None
 }
 
 #[cfg(test)]
