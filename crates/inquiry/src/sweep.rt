@@ -33,8 +33,10 @@ fn add_found<G: Graph, F: Fn(G::State) -> bool>(
 {
     for letter in 0..graph.letters() {
         for b in from {
+            // read once, and not again at each slot
+            let b = *b;
             for i in 0..graph.slots() {
-                if let Some(c) = graph.slot(letter, *b, i) {
+                if let Some(c) = graph.slot(letter, b, i) {
                     if pass(c) {
                         fill = add(graph, work, fill, c)?;
                     }

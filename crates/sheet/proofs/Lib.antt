@@ -1,3 +1,5 @@
 pub mod Denoteds
+pub mod Indexed
 pub mod Modelled
 pub mod Satisfied
+pub mod Stored

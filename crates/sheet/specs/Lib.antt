@@ -4,4 +4,5 @@ pub mod Errors
 pub mod Loads
 pub mod Models
 pub mod Rules
+pub mod Spans
 pub mod Tables

@@ -1,6 +1,5 @@
 -- What a rule holds. Assumes nothing.
-use Rattle.std.specs.Prelude.{◌≡◌, ℕ, ◌+◌, ◌*◌, Bool, false, cond, ◌&&◌, List, [], ◌∷◌, Vec, nat_lt, slice_index_or}
-use Rattle.std.specs.declared.alloc.Global.{Global}
+use Rattle.std.specs.Prelude.{◌≡◌, ℕ, ◌+◌, ◌*◌, Bool, false, cond, ◌&&◌, List, [], ◌∷◌, nat_lt, slice_index_or}
 use Rattle.std.specs.Option.{unwrap_or}
 use Rattle.formula.specs.declared.token.Token.{Token}
 use Rattle.formula.specs.Formulas.{Formula, never}
@@ -8,13 +7,14 @@ use Rattle.formula.specs.Machine.{Spells, evaluated}
 use Rattle.formula.specs.Sets.{has}
 use Rattle.inspect.specs.Denotes.{Content}
 use Rattle.sheet.specs.declared.headed.Headed.{Headed}
+use Rattle.sheet.specs.declared.table.Table.{Table}
 use Rattle.sheet.specs.contracts.rule.TableCells.TheImpl.{ghosts}
 use Rattle.sheet.specs.Automata.{with_formulas}
 use Rattle.sheet.specs.Tables.{formulas}
 
 -- a head with a table of formulas
 abbrev pub Rule : Type 0
-Rule = Headed (Vec (Vec Token Global) Global) ghosts
+Rule = Headed Table ghosts
 
 -- a rule keeps exactly the entries and tokens of its sheet
 abbrev pub rule_content : Rule → Content

@@ -1,6 +1,8 @@
 -- The token strings that a table holds. Assumes nothing.
-use Rattle.std.specs.Prelude.{List, map, Vec, vec_items}
+use Rattle.std.specs.Prelude.{List, vec_items}
 use Rattle.formula.specs.declared.token.Token.{Token}
+use Rattle.sheet.specs.declared.table.Table.{Table}
+use Rattle.sheet.specs.Spans.{parts}
 
-abbrev pub formulas : {Y Z : Type 0} → Vec (Vec Token Y) Z → List (List Token)
-formulas t = map vec_items (vec_items t)
+abbrev pub formulas : Table → List (List Token)
+formulas t = parts (vec_items t.spans) (vec_items t.tokens)

@@ -9,19 +9,20 @@ ghost use Rattle.sheet.specs.Tables.{formulas};
 
 use crate::faultless::Faultless;
 use crate::numbers::cell_number;
-use crate::table::{Table, blank, put};
+use crate::strings::{blank, put};
+use crate::table::Table;
 use inspect::block::{BLOCK, Block};
 use std::alloc::{AllocError, Global};
 
 // The entries of a block, which all fit, each in its cell.
-fn fill_block(heap: Global, table: &mut Table, letters: u8, block: Block) -> Result<(), AllocError>
+fn fill_block(table: &mut Table, letters: u8, block: Block) -> Result<(), AllocError>
     requires { AllByRecursion (λ e. e.fits ≡ true) (entries block.number 2 (body block.bytes.now)) }
     ensures { OnOk result ((fs : List Placed) → laid letters (formulas table.old) (map entry_of (entries block.entry.number 2 (body block.entry.bytes.now) ++ fs)) ≡ laid letters (formulas table.new) (map entry_of fs)) }
 {
     for entry in block.entries() {
         let Ok(entry) = entry else { unreachable!() };
         let cell = cell_number(letters, entry.location, entry.letter);
-        put(heap, table, cell, entry.tokens)?;
+        put(table, cell, entry.tokens)?;
     }
     Ok(())
 }
@@ -37,12 +38,7 @@ pub(crate) fn read_table(heap: Global, sheet: Faultless) -> Result<Table, AllocE
     };
     for (i, bytes) in entries.iter().enumerate() {
         let number = i as u8 + 1;
-        fill_block(
-            heap,
-            &mut table,
-            sheet.head.letters,
-            Block { number, bytes },
-        )?;
+        fill_block(&mut table, sheet.head.letters, Block { number, bytes })?;
     }
     Ok(table)
 }

@@ -9,9 +9,13 @@ mod filling;
 mod headed;
 mod loading;
 pub mod model;
-mod numbers;
+pub mod models;
+pub mod numbers;
 pub mod rule;
+pub mod rules;
 mod sets;
+mod span;
+mod strings;
 mod table;
 #[cfg(test)]
 mod tests;

@@ -88,4 +88,21 @@ impl<C: Cells> Source for Headed<C> {
     fn token(&self, cell: usize, i: usize) -> Token {
         self.cells.token(self.head, cell, i)
     }
+
+    // A search asks these four at every slot, so each reads its field where it lies, and no head is copied.
+    fn locations(&self) -> u8 {
+        self.head.locations
+    }
+
+    fn letters(&self) -> u8 {
+        self.head.letters
+    }
+
+    fn initial(&self) -> u8 {
+        self.head.initial
+    }
+
+    fn accepting(&self) -> u32 {
+        self.head.accepting
+    }
 }

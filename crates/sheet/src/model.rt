@@ -13,7 +13,6 @@ use crate::cells::Cells;
 use crate::faultless::Faultless;
 use crate::filling::read_table;
 use crate::headed::Headed;
-use crate::numbers::known_cell;
 use crate::sets::{Sets, named_sets};
 use formula::token::Token;
 use formula::union::{spelling_length, spelling_token};
@@ -58,17 +57,4 @@ impl Cells for Sets {
     ghost fitting = { λ _ _ c is v. ap₂ small (ap (λ h. h.locations) is.0) is.1 ∙ named_small c v };
 
     ghost own = { λ h sets fit. (refl, sym (named_spelled_back h sets.items fit)) };
-}
-
-impl Model {
-    ghost use Rattle.sheet.specs.Models.{successors_of};
-
-    // The successors of a location under a letter, as a mask.
-    pub fn successors(&self, location: u8, letter: u8) -> u32
-        ensures { result ≡ successors_of self.now location letter }
-    {
-        known_cell(self.head, location, letter)
-            .and_then(|cell| self.cells.get(cell).copied())
-            .unwrap_or(0)
-    }
 }

@@ -1,7 +1,5 @@
 // A rule: an alternating automaton, with a formula for each location and letter.
 ghost use Rattle.std.specs.Prelude.{◌≡◌, true};
-ghost use Rattle.formula.specs.Formulas.{Formula, value};
-ghost use Rattle.formula.specs.Sets.{has};
 ghost use Rattle.inspect.specs.declared.head.Sort.TheVariants.{Rule as RuleSort};
 ghost use Rattle.layout.specs.Valid.{is_valid};
 ghost use Rattle.layout.proofs.Valids.{valid_test};
@@ -13,9 +11,8 @@ use crate::cells::Cells;
 use crate::faultless::Faultless;
 use crate::filling::read_table;
 use crate::headed::Headed;
-use crate::numbers::known_cell;
-use crate::table::{Table, blank, tokens_at};
-use formula::evaluate::evaluate;
+use crate::strings::{blank, tokens_at};
+use crate::table::Table;
 use formula::token::Token;
 use inspect::head::{Head, Sort};
 use std::alloc::{AllocError, Global};
@@ -59,26 +56,4 @@ impl Cells for Table {
     ghost fitting = { λ _ _ _ _ _. refl };
 
     ghost own = { λ _ _ _. refl };
-}
-
-impl Rule {
-    ghost use Rattle.sheet.specs.Rules.{rule_content, formula_of, holds, Means};
-
-    // The tokens for a location and a letter: none where there is no entry.
-    pub fn formula(&self, location: u8, letter: u8) -> &[Token]
-        ensures { result.now ≡ formula_of (rule_content self.now) location letter }
-    {
-        match known_cell(self.head, location, letter) {
-            Some(cell) => tokens_at(&self.cells, cell),
-            None => &[],
-        }
-    }
-
-    // Whether a set of locations satisfies the formula for a location and a letter. No set does where there is no entry.
-    pub fn satisfied(&self, location: u8, letter: u8, set: u32) -> bool
-        ensures value { result ≡ holds (formula_of (rule_content self.now) location letter) set }
-        ensures means { (f : Formula) × Means (formula_of (rule_content self.now) location letter) f × (result ≡ value (has set) f) }
-    {
-        evaluate(self.formula(location, letter), set).unwrap_or(false)
-    }
 }

@@ -3,6 +3,7 @@ ghost use Rattle.std.specs.Prelude.{◌≡◌, map, IfOk};
 ghost use Rattle.sheet.specs.Models.{named_mask};
 ghost use Rattle.sheet.specs.Tables.{formulas};
 
+use crate::strings::{cells, tokens_at};
 use crate::table::Table;
 use formula::union::named;
 use std::alloc::{AllocError, Global};
@@ -13,8 +14,7 @@ pub type Sets = Vec<u32>;
 pub(crate) fn named_sets(heap: Global, table: &Table) -> Result<Sets, AllocError>
     ensures { IfOk result (λ v. v.items ≡ map named_mask (formulas table.now)) }
 {
-    table
-        .iter()
-        .map(|tokens| named(tokens.as_slice()))
+    (0..cells(table))
+        .map(|cell| named(tokens_at(table, cell)))
         .collect(heap)
 }

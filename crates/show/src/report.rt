@@ -7,6 +7,7 @@ use inspect::head::Head;
 use layout::source::Source;
 use layout::write::write;
 use sheet::automaton::{Automaton, load};
+use sheet::numbers::cell_number;
 use std::alloc::{AllocError, Global};
 use words::infix::infix;
 use words::set::members;
@@ -37,7 +38,7 @@ fn show_entries<S: Source>(rt: &HostRuntime, source: &S) -> anyhow::Result<()> {
     let head = source.head();
     for location in 0..head.locations {
         for letter in 0..head.letters {
-            let cell = usize::from(location) * usize::from(head.letters) + usize::from(letter);
+            let cell = cell_number(head.letters, location, letter);
             let tokens = tokens(rt.alloc(), source, cell)?;
             if let Some(formula) = infix(rt.alloc(), tokens.as_slice())? {
                 println!(rt; "{location} under {letter}: {formula}")?;

@@ -1,0 +1,6 @@
+// A part of a store of tokens.
+#[derive(Clone, Copy)]
+pub struct Span {
+    pub start: usize,
+    pub length: usize,
+}
