@@ -1,6 +1,6 @@
 // Why a call turns its input down, by number.
-ghost use Rattle.std.specs.Prelude.{◌≡◌};
-ghost use Rattle.inquiry.specs.Refusal.{number as numbered};
+ghost use Rattle.std.specs.Prelude.{◌≡◌, Some};
+ghost use Rattle.inquiry.specs.Refusal.{number as numbered, refusal_words};
 
 use std::error::Error;
 use std::fmt;
@@ -32,6 +32,8 @@ impl Refusal {
 }
 
 impl fmt::Display for Refusal {
+    ghost output = { λ r. Some (refusal_words r) };
+
     fn fmt<W: fmt::Write>(&self, f: &mut fmt::Formatter<W>) -> fmt::Result {
         f.write_str(match self {
             Refusal::Tables => "tables unequal, or of no place or more than 4,096",

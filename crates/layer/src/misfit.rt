@@ -1,6 +1,6 @@
 // Why a model does not fit over a graph.
-ghost use Rattle.std.specs.Prelude.{◌≡◌};
-ghost use Rattle.layer.specs.Misfits.{number as numbered};
+ghost use Rattle.std.specs.Prelude.{◌≡◌, Some};
+ghost use Rattle.layer.specs.Misfits.{number as numbered, misfit_words};
 
 use sheet::model::Model;
 use std::error::Error;
@@ -28,6 +28,8 @@ impl Misfit {
 }
 
 impl fmt::Display for Misfit {
+    ghost output = { λ m. Some (misfit_words m) };
+
     fn fmt<W: fmt::Write>(&self, f: &mut fmt::Formatter<W>) -> fmt::Result {
         f.write_str(match self {
             Misfit::Letters(_) => "the model's letters are not those below",

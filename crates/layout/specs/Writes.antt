@@ -1,5 +1,5 @@
 -- What writing a sheet does, and why it can be read back. Assumes nothing.
-use Rattle.std.specs.Prelude.{◌≡◌, ℕ, ◌*◌, ◌<◌, ◌≤◌, true, List, ◌++◌, length, drop, Ok, Err, Result}
+use Rattle.std.specs.Prelude.{◌≡◌, ℕ, ◌*◌, ◌<◌, ◌≤◌, true, List, ◌++◌, codes, length, drop, Ok, Err, Result}
 use Rattle.inspect.specs.declared.head.Asked.{Asked}
 use Rattle.inspect.specs.Format.{takes}
 use Rattle.inspect.specs.Denotes.{Content, Denotes}
@@ -10,6 +10,10 @@ use Rattle.layout.specs.Written.{written}
 -- the number of the refusal
 abbrev pub write_number : WriteFault → ℕ
 write_number TooFewBytes = 9
+
+-- as it is printed
+abbrev pub write_words : WriteFault → List ℕ
+write_words TooFewBytes = codes "the bytes given are too few"
 
 -- the sheet and its length, and behind it what was there; or, where that is too short, no byte changes
 abbrev pub Writes : Content → List ℕ → List ℕ → Result ℕ WriteFault → Type 0

@@ -1,10 +1,10 @@
 // Writing a sheet: its blocks are counted first, so that a sheet that does not fit leaves every byte as it was.
-ghost use Rattle.std.specs.Prelude.{◌≡◌, suc, ◌+◌, ◌*◌, ◌<◌, ◌≤◌, ◌++◌, map, length, drop};
+ghost use Rattle.std.specs.Prelude.{◌≡◌, Some, suc, ◌+◌, ◌*◌, ◌<◌, ◌≤◌, ◌++◌, map, length, drop};
 ghost use Rattle.formula.specs.Tokens.{code};
 ghost use Rattle.inspect.specs.Denotes.{entry_bytes};
 ghost use Rattle.layout.specs.Pasted.{pasted};
 ghost use Rattle.layout.specs.Standing.{tokens_at, entry_at, entries_at, Stands};
-ghost use Rattle.layout.specs.Writes.{Writes, ReadsBack, write_number};
+ghost use Rattle.layout.specs.Writes.{Writes, ReadsBack, write_number, write_words};
 ghost use Rattle.layout.specs.Written.{bodies, entries_of, written};
 
 use crate::cursor::{BEHIND_HEAD, Cursor};
@@ -29,6 +29,8 @@ impl WriteFault {
 }
 
 impl fmt::Display for WriteFault {
+    ghost output = { λ e. Some (write_words e) };
+
     fn fmt<W: fmt::Write>(&self, f: &mut fmt::Formatter<W>) -> fmt::Result {
         f.write_str(match self {
             WriteFault::TooFewBytes => "the bytes given are too few",

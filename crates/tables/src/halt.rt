@@ -1,5 +1,6 @@
 // Why a search is not opened, or does not go on in longer tables.
-ghost use Rattle.std.specs.Prelude.{◌≡◌};
+ghost use Rattle.std.specs.Prelude.{◌≡◌, Some};
+ghost use Rattle.tables.specs.Halts.{halt_words};
 ghost use Rattle.tables.specs.declared.halt.Halt.TheVariants.{Refused as RefusedBy, Memory as NoMemory};
 
 use inquiry::refusal::Refusal;
@@ -35,9 +36,11 @@ impl From<AllocError> for Halt {
 }
 
 impl fmt::Display for Halt {
+    ghost output = { λ h. Some (halt_words h) };
+
     fn fmt<W: fmt::Write>(&self, f: &mut fmt::Formatter<W>) -> fmt::Result {
         match self {
-            Halt::Refused(refusal) => write!(f, "{refusal}"),
+            Halt::Refused(refusal) => refusal.fmt(f),
             Halt::Memory => f.write_str("no memory for the tables"),
         }
     }
