@@ -10,7 +10,7 @@ module _ {S : Type 0} (p : S → Bool) where
   kept_short (x ∷ xs) = cond_both (p x) (x ∷ filter p xs) (filter p xs) (λ l. length l ≤ suc (length xs)) (λ e. omega (arith, kept_short xs)) (λ e. omega (arith, kept_short xs))
 
   -- where as many stay as were held, all stay
-  kept_all : (xs : List S) → length xs ≤ length (filter p xs) → filter p xs ≡ xs
+  pub kept_all : (xs : List S) → length xs ≤ length (filter p xs) → filter p xs ≡ xs
   kept_all [] h = refl
   kept_all (x ∷ xs) h =
       cond_both (p x) (x ∷ filter p xs) (filter p xs) (λ l. suc (length xs) ≤ length l → l ≡ x ∷ xs) (λ e k. ap (λ l. x ∷ l) (kept_all xs (omega arith))) (λ e k. absurd (omega (arith, kept_short xs))) h

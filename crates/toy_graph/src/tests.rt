@@ -37,6 +37,15 @@ struct Trial {
     graph: Chain,
     inquiry: Inquiry,
     tables: Tables,
+    // what was lent to the last widening that was turned down
+    longer: Tables,
+}
+
+// Why an opening was turned down, and whether outer was as before.
+#[derive(Clone, Copy, PartialEq, Debug)]
+struct Closed {
+    refusal: Refusal,
+    unchanged: bool,
 }
 
 fn length(n: usize) -> usize
@@ -50,8 +59,7 @@ fn front(table: &[u8; LONG], n: usize) -> &[u8] {
 }
 
 impl Trial {
-    // Outer is as before where an opening is turned down.
-    fn open(rt: &impl Abort, stuck: bool, lent: [usize; 3], limit: u32) -> Result<Trial, Refusal> {
+    fn open(stuck: bool, lent: [usize; 3], limit: u32) -> Result<Trial, Closed> {
         let graph = Chain { stuck };
         let mut outer = [9; LONG];
         let free = [9; LONG];
@@ -62,16 +70,22 @@ impl Trial {
             front(&free, lent[2]),
             limit,
         );
-        assert!(rt; opened.is_ok() || outer == free);
-        Ok(Trial {
-            graph,
-            inquiry: opened?,
-            tables: Tables {
-                outer,
-                inner: free,
-                work: free,
-            },
-        })
+        match opened {
+            Ok(inquiry) => Ok(Trial {
+                graph,
+                inquiry,
+                tables: Tables {
+                    outer,
+                    inner: free,
+                    work: free,
+                },
+                longer: Tables::fresh(),
+            }),
+            Err(refusal) => Err(Closed {
+                refusal,
+                unchanged: outer == free,
+            }),
+        }
     }
 
     fn run(&mut self, lent: [usize; 3], budget: u32) -> Result<(), Refusal> {
@@ -84,8 +98,7 @@ impl Trial {
         )
     }
 
-    // Also the new tables of a widening that is turned down are as before.
-    fn widen(&mut self, rt: &impl Abort, old: [usize; 2], lent: [usize; 3]) -> Result<(), Refusal> {
+    fn widen(&mut self, old: [usize; 2], lent: [usize; 3]) -> Result<(), Refusal> {
         let mut longer = Tables::fresh();
         let widened = self.inquiry.widen::<Chain>(
             front(&self.tables.outer, old[0]),
@@ -96,7 +109,7 @@ impl Trial {
         );
         match widened {
             Ok(()) => self.tables = longer,
-            Err(_) => assert!(rt; longer == Tables::fresh()),
+            Err(_) => self.longer = longer,
         }
         widened
     }
@@ -122,7 +135,9 @@ fn opened(limit: u32, places: usize) -> Report {
 
 #[test]
 fn goes_on_in_longer_tables(rt: HostRuntime) -> Result<(), Fail> {
-    let mut t = Trial::open(&rt, false, [3; 3], 100)?;
+    let Ok(mut t) = Trial::open(false, [3; 3], 100) else {
+        return Err(Fail::new("open is refused"));
+    };
     let new = opened(100, 3);
     assert_eq!(rt; t.report(), new);
     assert!(rt; &t.tables.outer[0..3] == [4, 0, 9].as_slice());
@@ -137,7 +152,7 @@ fn goes_on_in_longer_tables(rt: HostRuntime) -> Result<(), Fail> {
     assert_eq!(rt; t.report(), full);
     assert!(rt; &t.tables.outer[0..2] == [4, 0].as_slice());
     assert!(rt; &t.tables.inner[0..3] == [0, 1, 2].as_slice());
-    t.widen(&rt, [3; 2], [5; 3])?;
+    t.widen([3; 2], [5; 3])?;
     let wider = Report {
         standing: Standing::Running,
         places: 5,
@@ -163,7 +178,9 @@ fn goes_on_in_longer_tables(rt: HostRuntime) -> Result<(), Fail> {
 
 // Opened with five places and run, at once or by single sweeps, with a budget of 0 before and after.
 fn ended(rt: &impl Abort, stuck: bool, limit: u32, budget: u32) -> Result<Report, Fail> {
-    let mut t = Trial::open(rt, stuck, [5; 3], limit)?;
+    let Ok(mut t) = Trial::open(stuck, [5; 3], limit) else {
+        return Err(Fail::new("open is refused"));
+    };
     t.run([5; 3], 0)?;
     assert_eq!(rt; t.report(), opened(limit, 5));
     for _ in 0..12 {
@@ -235,7 +252,7 @@ fn ends(rt: HostRuntime) -> Result<(), Fail> {
     Ok(())
 }
 
-// Also the record and the tables of a trial that is turned down are as before.
+// Also the record and the tables of a trial that is turned down are as before, the new ones of a widening too.
 fn refused<F: FnOnce(&mut Trial) -> Result<(), Refusal>>(
     rt: &impl Abort,
     t: &mut Trial,
@@ -248,6 +265,7 @@ fn refused<F: FnOnce(&mut Trial) -> Result<(), Refusal>>(
     let before = t.tables;
     assert_eq!(rt; call(t), Err(expected));
     assert!(rt; t.report() == report && t.tables == before);
+    assert!(rt; t.longer == Tables::fresh());
 }
 
 #[test]
@@ -261,40 +279,27 @@ fn turns_down(rt: HostRuntime) -> Result<(), Fail> {
         ([2, 2, 2], 9, Refusal::Tops),
     ];
     for (lent, limit, expected) in openings {
-        let Err(refusal) = Trial::open(&rt, false, lent, limit) else {
+        let Err(closed) = Trial::open(false, lent, limit) else {
             return Err(Fail::new("opened"));
         };
-        assert_eq!(rt; refusal, expected);
+        assert!(rt; closed.refusal == expected && closed.unchanged);
     }
-    let mut t = Trial::open(&rt, false, [3; 3], 9)?;
+    let Ok(mut t) = Trial::open(false, [3; 3], 9) else {
+        return Err(Fail::new("open is refused"));
+    };
     for lent in [[4, 3, 3], [3, 2, 3], [3, 3, 4]] {
         refused(&rt, &mut t, Refusal::Places, |t| t.run(lent, 0));
     }
-    refused(
-        &rt,
-        &mut t,
-        Refusal::Places,
-        |t| t.widen(&rt, [2, 3], [9; 3]),
-    );
-    refused(
-        &rt,
-        &mut t,
-        Refusal::Places,
-        |t| t.widen(&rt, [3, 4], [9; 3]),
-    );
-    refused(&rt, &mut t, Refusal::Room, |t| t.widen(&rt, [3; 2], [1; 3]));
+    refused(&rt, &mut t, Refusal::Places, |t| t.widen([2, 3], [9; 3]));
+    refused(&rt, &mut t, Refusal::Places, |t| t.widen([3, 4], [9; 3]));
+    refused(&rt, &mut t, Refusal::Room, |t| t.widen([3; 2], [1; 3]));
     // now full
     t.run([3; 3], 9)?;
     refused(&rt, &mut t, Refusal::Places, |t| t.run([3, 3, 2], 0));
     refused(&rt, &mut t, Refusal::Stopped, |t| t.run([3; 3], 0));
-    refused(
-        &rt,
-        &mut t,
-        Refusal::Places,
-        |t| t.widen(&rt, [4, 3], [1; 3]),
-    );
+    refused(&rt, &mut t, Refusal::Places, |t| t.widen([4, 3], [1; 3]));
     for lent in [[3; 3], [5, 4, 5], [5, 5, 6], [4097; 3]] {
-        refused(&rt, &mut t, Refusal::Wider, |t| t.widen(&rt, [3; 2], lent));
+        refused(&rt, &mut t, Refusal::Wider, |t| t.widen([3; 2], lent));
     }
     Ok(())
 }
@@ -312,6 +317,20 @@ fn numbers_refusals(rt: HostRuntime) {
     ];
     for (refusal, number) in numbers {
         assert_eq!(rt; refusal.number(), number);
+    }
+}
+
+#[test]
+fn numbers_standings(rt: HostRuntime) {
+    let standings = [
+        Standing::Running,
+        Standing::Possible,
+        Standing::Impossible,
+        Standing::Full,
+        Standing::Spent,
+    ];
+    for (number, standing) in standings.into_iter().enumerate() {
+        assert_eq!(rt; standing as usize, number);
     }
 }
 
