@@ -4,7 +4,7 @@ use Rattle.formula.specs.Sets.{has}
 use Rattle.layout.proofs.Valids.{test_valid}
 use Rattle.sheet.specs.Rules.{rule_content}
 use Rattle.sheet.proofs.Satisfied.{satisfies}
-use Rattle.sheet.proofs.rule.Rule.satisfied.Goals as goal
+use Rattle.sheet.proofs.rules.Rule.satisfied.Goals as goal
 
 pub returns : goal.returns
 returns c =
