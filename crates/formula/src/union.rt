@@ -47,7 +47,7 @@ fn joined(set: u32, token: Token) -> u32
 fn count(locations: u8, set: u32) -> usize
     ensures { result ≡ length (members locations set) }
 {
-    // A filter that is counted takes up to half as much time again, here and in `member`, and a writer asks for each token.
+    // A filter that is counted, here and in `member`, makes 1.6 times the instructions where full sets are written.
     let mut count = 0;
     for l in 0..locations {
         count += usize::from(contains(set, l));

@@ -1,9 +1,9 @@
 -- Bytes filled from the front by what an input gives.
-use Rattle.std.proofs.Common.{◌≡◌, ℕ, ◌+◌, ◌≤◌, List, ◌++◌, Option, None, Some, IfSome, length, take, drop, sym, ap, subst, ◌∙◌, arith, append-nil, length-take-le, take_all}
+use Rattle.std.proofs.Common.{◌≡◌, ℕ, ◌+◌, ◌≤◌, List, ◌++◌, Option, None, Some, IfSome, length, take, drop, sym, ap, subst, ◌∙◌, arith, length-take-le, take_all}
 use Rattle.std.proofs.Math.Seq.{take-add}
 use Rattle.std.proofs.lemmas.List.{take_at}
 use Rattle.std.specs.Io.KnownBytes.{Consumes, IsAtEnd}
-use Rattle.std.proofs.KnownBytes.{Consumes-trans}
+use Rattle.std.proofs.KnownBytes.{Consumes-trans, Consumes-whole}
 
 -- xs had n bytes of the input, and ys has these and m more
 pub filled_more : (a b c : Option (List ℕ)) (xs ys : List ℕ) (n m : ℕ) → take n ys ≡ take n xs → Consumes a b (take n xs)
@@ -22,10 +22,8 @@ filled_whole (Some zs) (Some ys) xs n whole read =
 -- the input has no more to give: the last read gave nothing
 pub filled_out : (a b : Option (List ℕ)) (xs : List ℕ) (n m : ℕ) → n + m ≤ length xs → m ≡ 0 → Consumes a b (take (n + m) xs) → IsAtEnd b
     → IfSome a (λ zs. take n xs ≡ take (length xs) zs)
-filled_out None b xs n m fits none read end = tt
-filled_out (Some zs) None xs n m fits none read end = absurd read
-filled_out (Some zs) (Some ys) xs n m fits none read end =
+filled_out a b xs n m fits none read end =
     let same : n + m ≡ n = omega (arith, none) in
-    let within : n ≤ length xs = omega (arith, fits) in
-    let all : zs ≡ take n xs = read ∙ ap (λ l. take (n + m) xs ++ l) end ∙ append-nil (take (n + m) xs) ∙ ap (λ i. take i xs) same in
-    sym (ap (take (length xs)) all ∙ take_all (length xs) (take n xs) (subst (λ l. l ≤ length xs) (sym (length-take-le n xs within)) within))
+    let within : length (take n xs) ≤ length xs = subst (λ l. l ≤ length xs) (sym (length-take-le n xs (omega (arith, fits)))) (omega (arith, fits)) in
+    Consumes-whole a b (take n xs) (λ zs. take n xs ≡ take (length xs) zs) (subst (λ i. Consumes a b (take i xs)) same read) end
+    (sym (take_all (length xs) (take n xs) within))

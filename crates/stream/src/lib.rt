@@ -10,6 +10,9 @@ use std::alloc::Global;
 use std::io;
 use std::io::Read;
 
+#[cfg(test)]
+mod tests;
+
 // The length of the longest sheet and one byte more: a sheet of this length is refused.
 const MOST: usize = MOST_BLOCKS * BLOCK + 1;
 
