@@ -57,10 +57,15 @@ fn messages_are_joined(rt: HostRuntime) {
 
 #[test]
 fn each_read_asks_for_all_that_is_left(rt: HostRuntime) {
-    let input = Messages {
-        lengths: &[BLOCK, 20 * BLOCK, 40_000],
-    };
-    let bytes = read_front(rt.alloc(), input).expect(&rt, "no memory");
-    assert_eq!(rt; bytes.len(), MOST);
-    assert!(rt; is_message(&bytes));
+    // Longer than any sheet, after no message, one or two.
+    let inputs = [
+        [40_000, 0, 0],
+        [BLOCK, 40_000, 0],
+        [BLOCK, 20 * BLOCK, 40_000],
+    ];
+    for lengths in &inputs {
+        let bytes = read_front(rt.alloc(), Messages { lengths }).expect(&rt, "no memory");
+        assert_eq!(rt; bytes.len(), MOST);
+        assert!(rt; is_message(&bytes));
+    }
 }
